@@ -6,6 +6,7 @@
 # make app NAME=..  builds that program, optimized, and runs it on ARGS=..; with TRY=1 by a build that proves nothing
 # make check CRATE=..       proves one crate; with ONLY=.. one function of it
 # make test-crate CRATE=..  runs the tests of one crate, and those of the crates of tests that depend on it
+# make format       formats all crates: the prover rejects a crate that isn't, and so all crates above it
 # make test         the complete test command; its last line is 'N passed, M failed, K skipped'
 # make edits        tries all mutants that the prover has to reject, or with CRATES="page heap" those of these crates,
 #                   and records in tests/refused.txt the crates of which each was rejected; with CHECK=1 it tries
@@ -13,9 +14,9 @@
 # make lib          builds the static library for C and leaves it as ./libpauseless.a; with TRY=1 as
 #                   target/unproved/libpauseless.a, by a build that proves nothing
 # make install      installs the program in PREFIX/bin, and the library, its headers and its pkg-config file
-# make bench        times the program on generated scripts, loops over the library's calls, collections compared with
-#                   bdwgc, threads that share a heap, also compared with the JVM's ZGC, the Lisp in C, heaps near the
-#                   limits, and a cache under load
+# make bench        times the program and the library, counts their instructions, compares both with a plain heap,
+#                   bdwgc and the JVM's ZGC, and writes bench/results.json and the tables of the pages; with TRY=1 of
+#                   builds that prove nothing; PARTS="calls boehm" measures these parts alone
 # make film         makes film.html of examples/moving.script, or of SCRIPT=..; FILM=.. names another file; with TRY=1
 #                   by a build that proves nothing and is kept
 # make plot         makes plot.html of a long run, or of SCRIPT=..; PLOT=.. names another file; EVERY=.. counts after
@@ -72,7 +73,7 @@ unproved = RT='$(RT)' $(PYTHON) tools/unproved.py
 # part WORDS: says which part of a long command begins. What follows it is run with a line that has its time.
 part = echo '$@: $(1)' >&2; $(PROGRESS) --say '$@: $(1)' --
 
-.PHONY: all lib try run new app check test-crate test edits install bench film plot soak fuzz clean
+.PHONY: all lib try run new app check test-crate format test edits install bench bench-programs film plot soak fuzz clean
 
 all: pauseless
 
@@ -138,14 +139,20 @@ test-crate:
 	@$(call needs,CRATE,heap)
 	@RT='$(RT)' $(PYTHON) tools/test_crate.py $(if $(TRY),--try) '$(CRATE)'
 
+format:
+	@$(needs_toolchain)
+	@for crate in $$(sed -n 's/^\([a-z_]*\)\( [a-z]*\)*:.*/\1/p' crates.txt); do \
+		(cd "crates/$$crate" && $(RT) fmt) || exit 1; \
+	done
+
 test:
 	@$(needs_toolchain)
 	@RT='$(RT)' INSTALL='$(INSTALL)' PYTHON='$(PYTHON)' sh tests/all.sh
 
-# The crates whose mutants 'make edits' tries; none: all that have any. How many of them in parallel; 0: as many as
-# processors and memory allow.
+# The crates whose mutants 'make edits' tries; none: all that have any. How many crates at once: each takes all
+# processors and several GB.
 CRATES =
-JOBS = 0
+JOBS = 1
 
 edits:
 	@$(needs_toolchain)
@@ -163,36 +170,48 @@ install: pauseless libpauseless.a
 	sed 's|@PREFIX@|$(PREFIX)|; s|@VERSION@|$(VERSION)|' include/pauseless.pc.in \
 		> '$(DESTDIR)$(PREFIX)/lib/pkgconfig/pauseless.pc'
 
-bench: pauseless libpauseless.a
-	@$(call built,bench,copies 64 3 2)
-	@$(call built,timings,mark-list 10 2 1 1)
-	@$(call built,crowds,act 100)
-	@$(call built,holds,holds 64 8 4 2 10)
-	@$(call built,contention,portions 2 128)
-	@$(call built,lists,views 2 4000)
-	@$(call part,1 of 10: the program on generated scripts) $(PYTHON) bench/run.py ./pauseless
-	@$(call part,2 of 10: calls of the library) $(PYTHON) bench/calls.py crates/bench/out/bench
-	@export CC='$(CC)'; $(call part,3 of 10: collections compared with bdwgc) \
-		$(PYTHON) bench/boehm.py crates/timings/out/timings
-	@$(call part,4 of 10: threads that share a heap) $(PYTHON) bench/crowds.py
-	@$(call part,5 of 10: lists of threads compared with ZGC) $(PYTHON) bench/zgc.py
-	@$(call part,6 of 10: pauses of collections in parts) $(PYTHON) bench/pauses.py
-	@$(call part,7 of 10: commands of scripts) $(PYTHON) bench/commands.py ./pauseless
-	@export CC='$(CC)'; $(call part,8 of 10: the Lisp) $(PYTHON) bench/lisp.py ./libpauseless.a
-	@export CC='$(CC)'; $(call part,9 of 10: heaps near the limits) $(PYTHON) bench/large.py ./libpauseless.a
-	@export CC='$(CC)'; $(call part,10 of 10: a cache under load) $(PYTHON) bench/cache.py ./libpauseless.a
+# The parts of the bench, which are programs of bench/.
+PARTS = c_calls lisp calls commands run boehm crowds zgc pauses large cache data
+
+# The programs in Rattle that they measure.
+BENCHES = bench_calls bench_collections bench_sharing bench_lock bench_portions bench_lists
+
+ifdef TRY
+bench-programs:
+	@for crate in foreign report $(BENCHES); do \
+		AR='$(AR)' $(unproved) --unchecked $$crate || exit 1; \
+	done
+else
+bench-programs: pauseless libpauseless.a
+	@$(call built,bench_calls,copies 64 3 2)
+	@$(call built,bench_collections,mark-list 10 2 1 1)
+	@$(call built,bench_sharing,act 100)
+	@$(call built,bench_lock,holds 64 8 4 2 10)
+	@$(call built,bench_portions,portions 2 128)
+	@$(call built,bench_lists,views 2 4000)
+endif
+
+bench: bench-programs
+	@number=0; for part in $(PARTS); do \
+		number=$$((number + 1)); \
+		what="bench: $$number of $(words $(PARTS)): $$part"; \
+		echo "$$what" >&2; \
+		CC='$(CC)' $(PROGRESS) --say "$$what" -- $(PYTHON) bench/$$part.py $(if $(TRY),--unproved) || exit 1; \
+	done
+	@$(PYTHON) bench/tables.py write
+	@$(PYTHON) tests/figures.py write
 
 # The program that writes the states of a script's heap, with TRY=1 as a build that proves nothing.
 ifdef TRY
-STATES = target/unproved/states
+STATES = target/unproved/script_states
 else
-STATES = crates/states/out/states
+STATES = crates/script_states/out/script_states
 endif
 
-crates/states/out/states: $(SOURCES)
+crates/script_states/out/script_states: $(SOURCES)
 	@$(needs_toolchain)
 	@echo 'Proving the program, then building it. The first time takes about 30 minutes; the log is $(LOG).'
-	@$(call built,states,'$(CURDIR)/examples/first.script')
+	@$(call built,script_states,'$(CURDIR)/examples/first.script')
 
 FILM = film.html
 PLOT = plot.html
@@ -201,10 +220,10 @@ EVERY = 1
 # Builds the program. A script with a fault is to be rejected in a minute and not after a proof of half an hour: so if
 # the proved program has to be built first, the script is read by one that isn't proved.
 ifdef TRY
-states = $(unproved) states
+states = $(unproved) script_states
 else
 states = $(MAKE) --no-print-directory -q $(STATES) 2> /dev/null || { \
-	$(unproved) states && target/unproved/states '$(SCRIPT)' 1000000 > /dev/null && \
+	$(unproved) script_states && target/unproved/script_states '$(SCRIPT)' 1000000 > /dev/null && \
 	$(MAKE) --no-print-directory $(STATES); }
 endif
 
@@ -236,21 +255,21 @@ SOAK_THREADS = 2 4 8
 
 soak: libpauseless.a
 	@$(needs_toolchain)
-	@$(call built,driver,rolling 1 100000 1)
-	@$(call built,stress,threads 2 1000)
+	@$(call built,soak_steps,rolling 1 100000 1)
+	@$(call built,soak_threads,threads 2 1000)
 	@$(call part,1 of $(words x $(SOAKED)): $(SOAK_OBJECTS) objects that nobody keeps) \
-		crates/driver/out/driver waste $(SOAK_OBJECTS)
+		crates/soak_steps/out/soak_steps waste $(SOAK_OBJECTS)
 	@number=1; for heap in $(SOAKED); do \
 		number=$$((number + 1)); \
 		what="soak: $$number of $(words x $(SOAKED)): $(SOAK_STEPS) steps on the heap '$$heap'"; \
 		echo "$$what" >&2; \
-		$(PROGRESS) --say "$$what" -- crates/driver/out/driver $$heap 1 $(SOAK_STEPS) 1000 1 || exit 1; \
+		$(PROGRESS) --say "$$what" -- crates/soak_steps/out/soak_steps $$heap 1 $(SOAK_STEPS) 1000 1 || exit 1; \
 	done
 	@for threads in $(SOAK_THREADS); do \
 		what="soak: $$threads threads that share a heap"; \
 		echo "$$what" >&2; \
-		$(PROGRESS) --say "$$what" -- crates/stress/out/stress timed threads $$threads $$(($(SOAK_TURNS) / 4)) \
-			|| exit 1; \
+		$(PROGRESS) --say "$$what" -- crates/soak_threads/out/soak_threads timed threads $$threads \
+			$$(($(SOAK_TURNS) / 4)) || exit 1; \
 	done
 	@mkdir -p target
 	@$(CC) -std=c11 -O2 -Iinclude tests/c/shared.c libpauseless.a -pthread -o target/shared

@@ -1,16 +1,15 @@
 #!/usr/bin/env python3
-"""Times collections beside the collector of Boehm, Demers and Weiser: boehm.py [--instructions] [PROGRAM].
+"""Compares collections with the collector of Boehm, Demers and Weiser, bdwgc.
 
-The program is that of the crate `timings`; `bench/boehm.c` has the same on bdwgc, with one marker, and is built here.
-Where libgc isn't there, a line says so, and this heap's figures stand alone. The figures are nanoseconds of a
-processor, or with --instructions instructions, which `valgrind` counts, for one object that lives or that is made.
-Each is the difference of two runs, the best of several, which differ in one loop alone; the runs of both sides take
-turns. A '-' is a difference that isn't robust: half of the runs gives another one, as other work on the machine took
-more than what was measured. bdwgc runs as it is, and told that references lead to where objects begin; the lower
-figure is printed.
+The program is that of the crate `bench_collections`; `bench/boehm.c` has the same on bdwgc, with one marker, and is
+built here. If libgc isn't there, a line says so, and nothing is measured. The figures are nanoseconds of a processor,
+or instructions, which `valgrind` counts, for one object that lives or that is made. Each is the difference of two runs,
+the best of several, which differ in one loop alone; the runs of both sides take turns. A '-' is a difference that isn't
+robust: half of the runs gives another one, as other work on the machine took more than what was measured. bdwgc runs as
+it is, and set to expect references to where objects begin alone; the lower figure is kept.
 
-'mark' is a mark drained by one call, 'collect' a whole collection, both of objects that stay where they are. bdwgc has
-whole collections alone, and leaves what is dead to be swept by whoever makes objects. Where half of the objects are
+'mark' is a mark drained by one call, 'collect' a complete collection, both of objects that stay where they are. bdwgc
+has complete collections alone, and leaves what is dead to be swept by whoever makes objects. If half of the objects are
 dead the first collection moves what lives, and the second corrects the references to it.
 """
 
@@ -20,8 +19,7 @@ import shutil
 import subprocess
 import tempfile
 
-from calls import counted, differences, figure, timed
-from measuring import asked
+from measuring import counted, differences, figure, measure, timed
 
 # What is marked and collected: its shape, its objects, and the words of one.
 SHAPES = [("list", 100_000, 2), ("list", 50_000, 8), ("list", 10_000, 64),
@@ -41,12 +39,12 @@ COUNTED = 2
 HEAPS = 10
 RUNS = 9
 
-# A count takes so many times fewer objects that are made.
+# How many times fewer objects are made and kept if instructions are counted.
 FEWER = 10
 
 
 def built(folder):
-    """The program on bdwgc in a folder; none where there is no libgc, or no compiler."""
+    """The program on bdwgc in a folder; none, if there is no libgc or no compiler."""
     compiler = os.environ.get("CC", "cc")
     if shutil.which(compiler) is None:
         print("bdwgc: there is no C compiler")
@@ -54,18 +52,18 @@ def built(folder):
     program = os.path.join(folder, "boehm")
     source = os.path.join(os.path.dirname(os.path.abspath(__file__)), "boehm.c")
     command = [compiler, "-std=c11", "-O2", source, "-lgc", "-o", program]
-    if subprocess.run(command, stderr=subprocess.DEVNULL).returncode != 0:
+    if subprocess.run(command, stderr=subprocess.DEVNULL, check=False).returncode != 0:
         print("bdwgc: libgc isn't there")
         return None
     return program
 
 
 class Bench:
-    """This heap's program and bdwgc's, which may be missing, and how their runs are measured."""
+    """This heap's program and bdwgc's, and how their runs are measured."""
 
     def __init__(self, ours, other, instructions):
         self.ours, self.instructions = [ours], instructions
-        self.others = [[other], [other, "exact"]] if other else []
+        self.others = [[other], [other, "exact"]]
         self.forms, self.objects = {}, {}
 
     def add(self, key, program, name, numbers, changes, objects):
@@ -74,39 +72,29 @@ class Bench:
         self.objects[key] = objects
 
     def add_others(self, key, name, numbers, changes, objects):
-        """The same on bdwgc, as it is and as it is told that references lead to where objects begin."""
+        """The same on bdwgc, as it is and as it expects references to where objects begin alone."""
         for place, program in enumerate(self.others):
             self.add((key, "bdwgc", place), program, name, numbers, changes, objects)
 
-    def measure(self):
+    def measured(self):
         """What each form costs for each of its objects; of bdwgc's two the lesser."""
-        measured, runs, scale = (counted, 1, 1) if self.instructions else (timed, RUNS, 1e9)
-        took = differences(measured, runs, self.forms)
+        how, runs, scale = (counted, 1, 1) if self.instructions else (timed, RUNS, 1e9)
+        took = differences(how, runs, self.forms)
         each = {form: took[form] / self.objects[form] * scale for form in self.forms}
-        if self.others:
-            for key in {form[0] for form in each}:
-                both = [each.pop((key, "bdwgc", place)) for place in range(len(self.others))]
-                each[key, "bdwgc"] = min((it for it in both if not math.isnan(it)), default=math.nan)
-        self.forms, self.objects = {}, {}
+        for key in {form[0] for form in each}:
+            both = [each.pop((key, "bdwgc", place)) for place in range(len(self.others))]
+            each[key, "bdwgc"] = min((it for it in both if not math.isnan(it)), default=math.nan)
         return each
 
-    def print_table(self, heads, ours, keys, each):
-        """A row for each key: what it says, this heap's figures, and beside them bdwgc's and the ratios."""
-        heads = heads + ours + (["bdwgc"] + [f"{name} over bdwgc" for name in ours] if self.others else [])
-        print("| " + " | ".join(heads) + " |")
-        print("|---" * len(heads) + "|")
-        for key, words in keys.items():
-            cells = words + [figure(each[key, name]) for name in ours]
-            if self.others:
-                other = each[key, "bdwgc"]
-                cells += [figure(other)] + [figure(each[key, name] / other) for name in ours]
-            print("| " + " | ".join(cells) + " |")
-        print(flush=True)
-
-
-def row(key):
-    shape, count, words = key
-    return [shape, str(words), f"{count:,}"]
+    def table(self, head, ours, keys):
+        """A row for each key: what it is, this heap's figures, and bdwgc's with the ratios."""
+        digits, each, rows = 0 if self.instructions else 1, self.measured(), []
+        for key in keys:
+            shape, count, words = key
+            rows.append([shape, str(words), f"{count:,}",
+                         *(figure(each[key, name], digits) for name in [*ours, "bdwgc"]),
+                         *(figure(each[key, name] / each[key, "bdwgc"]) for name in ours)])
+        return [head, "Words", "Objects", *ours, "bdwgc", *(f"{name} over bdwgc" for name in ours)], rows
 
 
 def add_settled(bench, key, ours):
@@ -119,48 +107,48 @@ def add_settled(bench, key, ours):
     bench.add_others(key, f"collect-{shape}", numbers, changes, count * times)
 
 
-def print_collections(bench):
+def collections(bench):
     """Marks and collections of what stays where it is."""
     ours = ["mark", "collect"]
     for key in SHAPES:
         add_settled(bench, key, ours)
-    bench.print_table(["Shape", "Words", "Objects"], ours, {key: row(key) for key in SHAPES}, bench.measure())
+    return bench.table("Shape", ours, SHAPES)
 
 
-def print_halves(bench):
-    """The first and the second collection of heaps that are half dead, beside any collection of bdwgc's."""
-    ours, halves = ["first", "second"], [key for key in SHAPES if key[0] == "half"]
+def halves(bench):
+    """The first and the second collection of heaps that are half dead, compared with any collection of bdwgc's."""
+    ours, keys = ["first", "second"], [key for key in SHAPES if key[0] == "half"]
     heaps = 1 if bench.instructions else HEAPS
-    for key in halves:
+    for key in keys:
         shape, count, words = key
         for turn, name in enumerate(ours):
             changes = (turn, turn + 1)
             bench.add((key, name), bench.ours, f"collect-{shape}", (count, words, heaps), changes, count * heaps)
         add_settled(bench, key, [])
-    bench.print_table(["Collected", "Words", "Objects"], ours, {key: row(key) for key in halves}, bench.measure())
+    return bench.table("Collected", ours, keys)
 
 
-def print_making(bench):
-    """Objects that are made one behind another, kept in a list or not at all."""
-    for key in MADE:
-        name, count, words = key
-        made = count // FEWER if bench.instructions and name == "keep" else count
+def making(bench):
+    """Objects that are made one after another, kept in a list or not at all."""
+    keys = [(name, count // FEWER if bench.instructions and name == "keep" else count, words)
+            for name, count, words in MADE]
+    for key in keys:
+        name, made, words = key
         bench.add((key, "make"), bench.ours, name, (words,), (0, made), made)
         bench.add_others(key, name, (words,), (0, made), made)
-    bench.print_table(["Made", "Words", "Objects"], ["make"], {key: row(key) for key in MADE}, bench.measure())
+    return bench.table("Made", ["make"], keys)
 
 
-def main():
-    what = "Times collections beside the collector of Boehm, Demers and Weiser."
-    program, instructions = asked(what, "crates/timings/out/timings")
-    with tempfile.TemporaryDirectory() as folder:
-        bench = Bench(program, built(folder), instructions)
-        print("Instructions an object:" if instructions else "Nanoseconds an object:")
-        print()
-        print_collections(bench)
-        print_halves(bench)
-        print_making(bench)
+def by(work, instructions):
+    """A table of a work, in time or in instructions."""
+    def table(programs):
+        with tempfile.TemporaryDirectory() as folder:
+            other = built(folder)
+            return work(Bench(programs["bench_collections"], other, instructions)) if other else None
+    return table
 
 
 if __name__ == "__main__":
-    main()
+    WORKS = {"collections": collections, "half-dead": halves, "making": making}
+    measure(__doc__, {f"{name}-instructions": by(work, True) for name, work in WORKS.items()}
+            | {name: by(work, False) for name, work in WORKS.items()})

@@ -1,16 +1,17 @@
 #!/usr/bin/env python3
-"""Times a cache under load: cache.py LIBRARY, of the library for C, which 'make lib' builds.
+"""Times a cache under load, by the library for C.
 
-For several numbers of frames, as many times the live pages, prints what an operation takes, which replaces an entry, with
+For several numbers of frames, as a multiple of the live pages: what an operation takes, which replaces an entry, with
 complete collections and with collections in parts by several budgets; the longest operation; and how many complete
-collections there were for 1,000 operations. bench/cache.c says what the cache is. Figures are the least of some runs.
+collections, or collections in parts, there were for 1,000 operations. If one with a budget was complete, it fails.
+bench/cache.c says what the cache is. Figures are the least of some runs.
 """
 
 import subprocess
 import sys
 import tempfile
 
-from measuring import built_over
+from measuring import built_over, measure
 
 RUNS = 3
 
@@ -19,7 +20,7 @@ OPERATIONS = 200_000
 FRAMES = [92, 108, 124, 144, 180, 248]
 
 # Each with the share of the frames that the policy keeps free.
-BUDGETS = [(0, 16), (100, 4), (400, 4), (1_600, 4)]
+BUDGETS = [(0, 16), (10, 4), (100, 4), (1_000, 4), (10_000, 4)]
 
 
 def least(program, *words):
@@ -31,24 +32,24 @@ def least(program, *words):
 
 def cell(program, frames, budget, share):
     """What a cache takes in this number of frames."""
-    live, operation, longest, whole, _, refused = least(program, frames, frames // share, budget, OPERATIONS)
+    live, operation, longest, whole, ended, _, _, refused = least(program, frames, frames // share, budget, OPERATIONS)
     if refused:
         return live, "refused"
-    return live, f"{operation:,.0f} ns, {longest:.1f} ms, {whole / (2 * OPERATIONS / 1_000):.2f}"
+    if budget and whole:
+        sys.exit(f"cache.py: {whole:.0f} collections by one call with {frames} frames and a budget of {budget}")
+    return live, f"{operation:,.0f} ns, {longest:.1f} ms, {(whole or ended) / (2 * OPERATIONS / 1_000):.2f}"
 
 
-def main():
-    if len(sys.argv) != 2:
-        sys.exit(__doc__)
-    heads = [f"budget {budget:,}" if budget else "complete" for budget, _ in BUDGETS]
-    print("| Frames over live pages | " + " | ".join(heads) + " |")
-    print("|" + "---|" * (1 + len(BUDGETS)))
+def cache(programs):
+    rows = []
     with tempfile.TemporaryDirectory() as folder:
-        program = built_over(sys.argv[1], "cache", folder)
+        program = built_over(programs["foreign"], "cache", folder)
         for frames in FRAMES:
             cells = [cell(program, frames, budget, share) for budget, share in BUDGETS]
-            print(f"| {frames / cells[0][0]:.2f} | " + " | ".join(text for _, text in cells) + " |", flush=True)
+            rows.append([f"{frames / cells[0][0]:.2f}", *(text for _, text in cells)])
+    heads = [f"budget {budget:,}" if budget else "complete" for budget, _ in BUDGETS]
+    return ["Frames over live pages", *heads], rows
 
 
 if __name__ == "__main__":
-    main()
+    measure(__doc__, {"cache": cache})

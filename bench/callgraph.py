@@ -21,7 +21,7 @@ class Profile:
             self.read(file)
 
     def name(self, text):
-        """A function's name: callgrind writes it once, behind its number."""
+        """A function's name: callgrind writes it once, after its number."""
         number, name = re.match(r"\((\d+)\)(?: (.*))?", text).groups()
         return self.names.setdefault(number, name)
 

@@ -1,24 +1,22 @@
 #!/usr/bin/env python3
-"""Counts instructions for a command of a script: python3 bench/commands.py [PROGRAM].
+"""Counts instructions for a command of a script, by `valgrind`.
 
-Each script repeats one mix of commands, all of which are accepted but the two
-last ones of the mix of all. Instructions are counted by `valgrind`, less those
-of the same script without these commands, for each of 20,000:
+Each script repeats one mix of commands, all of which are accepted but the two last ones of the mix of all. The counts
+are less those of the same script without these commands, for each of 20,000:
 
   read     the script with a fault in its last line, which is only read
-  print    the function that tells a command, with all that it calls; it is
-           none where the compiler left no function of that name
+  print    the function that prints a command's answer, with all that it calls; none, if the compiler left no function
+           of that name
+  step     what is left: the step, with its entry in the history
   all      the script
-
-What is left, with the step and its entry in the history, is `step`.
 """
 
 import os
 import re
-import shutil
 import subprocess
-import sys
 import tempfile
+
+from measuring import counted, figure, measure
 
 COMMANDS = 20_000
 HEAD = ["heap words 64 frames 64 pages 64 threads 2 workers 1 registers 4 globals 2",
@@ -39,50 +37,41 @@ MIXES = {
 }
 
 
-def counted(program, folder, lines, status):
-    """Instructions of one run: all of them, and those of telling commands."""
+def parts_of(program, folder, lines, status):
+    """Instructions of one run: all of them, and those of printing answers."""
     script, found = os.path.join(folder, "script"), os.path.join(folder, "found")
     with open(script, "w", encoding="ascii") as file:
         file.write("\n".join(lines) + "\n")
-    tool = ["valgrind", "--tool=callgrind", f"--callgrind-out-file={found}"]
-    done = subprocess.run([*tool, program, "run", script], stdout=subprocess.DEVNULL, stderr=subprocess.PIPE, text=True)
-    if done.returncode != status:
-        sys.exit(f"the program ended with status {done.returncode}, not {status}:\n{done.stderr}")
-    shown = subprocess.run(["callgrind_annotate", "--inclusive=yes", found], stdout=subprocess.PIPE, text=True).stdout
-    tells = [int(count.replace(",", "")) for count in re.findall(r"^ *([\d,]+) .*:tell_command", shown, re.M)]
-    return int(re.search(r"Collected : (\d+)", done.stderr)[1]), max(tells, default=0)
+    total = counted([program, "run", script], status, found)
+    shown = subprocess.run(["callgrind_annotate", "--inclusive=yes", found], stdout=subprocess.PIPE, text=True,
+                           check=True).stdout
+    prints = [int(count.replace(",", "")) for count in re.findall(r"^ *([\d,]+) .*:tell_command", shown, re.M)]
+    return total, max(prints, default=0)
 
 
-def measure(program, folder, body):
+def each_of(program, folder, body):
     """Instructions a command: read, print, all."""
     commands = (body * (COMMANDS // len(body) + 1))[:COMMANDS]
 
     def each(more, end, status):
-        whole = counted(program, folder, HEAD + START + more + end, status)
-        none = counted(program, folder, HEAD + START + end, status)
+        whole = parts_of(program, folder, HEAD + START + more + end, status)
+        none = parts_of(program, folder, HEAD + START + end, status)
         return [(one - other) / COMMANDS for one, other in zip(whole, none)]
 
     read, _ = each(commands, ["fault"], 2)
-    both, told = each(commands, [], 0)
-    return read, told, both
+    both, printed = each(commands, [], 0)
+    return read, printed, both
 
 
-def main():
-    program = os.path.abspath(sys.argv[1] if len(sys.argv) > 1 else "./pauseless")
-    if not os.access(program, os.X_OK):
-        sys.exit(f"{program} isn't there: run 'make' first")
-    if shutil.which("valgrind") is None:
-        print("There is no valgrind, so instructions for a command aren't counted.")
-        return
-    print("Instructions a command of a script:")
-    print()
-    print("| Mix | read | print | step | all |")
-    print("|---|---|---|---|---|")
+def commands(programs):
+    """Instructions of each mix."""
+    rows = []
     with tempfile.TemporaryDirectory() as folder:
         for name, body in MIXES.items():
-            read, told, both = measure(program, folder, body)
-            print(f"| {name} | {read:,.0f} | {told:,.0f} | {both - read - told:,.0f} | {both:,.0f} |", flush=True)
+            read, printed, both = each_of(programs["report"], folder, body)
+            rows.append([name, *(figure(it, 0) for it in (read, printed, both - read - printed, both))])
+    return ["Mix", "read", "print", "step", "all"], rows
 
 
 if __name__ == "__main__":
-    main()
+    measure(__doc__, {"commands-instructions": commands})

@@ -9,28 +9,14 @@
  *     object, the parts, the milliseconds of the longest one and of all, and the MiB that the process has.
  * large verify FRAMES WORDS: fills the heap in the same way. Prints the milliseconds of a verification. */
 #define _POSIX_C_SOURCE 200809L
-#include <pauseless.h>
+#define PROGRAM "large"
+#include "timed.h"
 
-#include <stdio.h>
-#include <stdlib.h>
 #include <string.h>
-#include <time.h>
 
 static pauseless_heap heap;
 
 static const pauseless_layout layouts[] = {{.refs = 1, .nums = 2}, {.refs = 1, .nums = 62}};
-
-static double now(void) {
-    struct timespec time;
-    clock_gettime(CLOCK_MONOTONIC, &time);
-    return (double)time.tv_sec * 1e9 + (double)time.tv_nsec;
-}
-
-static void must(pauseless_code code) {
-    if (code == PAUSELESS_DONE) return;
-    fprintf(stderr, "large: %s\n", pauseless_text(code));
-    exit(1);
-}
 
 static void open_heap(uint32_t words, uint32_t frames, uint32_t registers) {
     pauseless_sizes sizes;

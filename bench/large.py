@@ -1,5 +1,5 @@
 #!/usr/bin/env python3
-"""Times heaps near the limits of the library: large.py LIBRARY, of the library for C, which 'make lib' builds.
+"""Times heaps near the limits of the library, by the library for C.
 
 What a register costs in a collection; what an object costs by the number of frames; and large heaps that are filled,
 collected in parts and verified, as far as the machine has memory for them. Figures are the least of some runs, but for
@@ -7,10 +7,9 @@ what a large heap takes. bench/large.c says what each work is.
 """
 
 import subprocess
-import sys
 import tempfile
 
-from measuring import built_over
+from measuring import built_over, measure
 
 RUNS = 5
 
@@ -36,12 +35,6 @@ def least(program, *words):
     return [min(column) for column in zip(*(numbers(program, *words) for _ in range(RUNS)))]
 
 
-def table(heads, rows):
-    print()
-    for cells in [heads, ["---"] * len(heads), *rows]:
-        print("| " + " | ".join(cells) + " |", flush=True)
-
-
 def free_mib():
     """The MiB that the machine has left."""
     with open("/proc/meminfo", encoding="ascii") as file:
@@ -49,7 +42,7 @@ def free_mib():
 
 
 def heap_row(program, frames):
-    """The row of a large heap; none where the machine has no room for it."""
+    """The row of a large heap; none, if the machine has too little memory for it."""
     size = frames // 4
     if free_mib() < size * 5 // 4:
         return None
@@ -59,20 +52,31 @@ def heap_row(program, frames):
             f"{all_parts:,.0f}", verified, f"{resident:,.0f}"]
 
 
-def main():
-    if len(sys.argv) != 2:
-        sys.exit(__doc__)
-    with tempfile.TemporaryDirectory() as folder:
-        program = built_over(sys.argv[1], "large", folder)
-        rows = [[f"{count:,}", *(f"{micros:,.0f}" for micros in least(program, "registers", count))]
-                for count in REGISTERS]
-        table(["Registers", "longest part if each names an object, us", "if all are null, us"], rows)
-        table(["Frames of 16 words", "ns an object"],
-              [[f"{count:,}", f"{least(program, 'objects', count, 16)[0]:.1f}"] for count in FRAMES])
-        rows = [heap_row(program, frames) for frames in HEAPS]
-        table(["Heap", "Objects of 64 words", "made in ms", "ns an object", "parts", "the longest, ms", "all, ms",
-               "verified in ms", "resident MiB"], [row for row in rows if row])
+def registers(program):
+    rows = [[f"{count:,}", *(f"{micros:,.0f}" for micros in least(program, "registers", count))]
+            for count in REGISTERS]
+    return ["Registers", "longest part if each names an object, us", "if all are null, us"], rows
+
+
+def objects(program):
+    rows = [[f"{count:,}", f"{least(program, 'objects', count, 16)[0]:.1f}"] for count in FRAMES]
+    return ["Frames of 16 words", "an object, ns"], rows
+
+
+def heaps(program):
+    rows = [heap_row(program, frames) for frames in HEAPS]
+    return ["Heap", "Objects of 64 words", "made in ms", "an object, ns", "parts", "the longest, ms", "all, ms",
+            "verified in ms", "resident MiB"], [row for row in rows if row]
+
+
+def over_library(work):
+    """A table by a work of the program in C."""
+    def table(programs):
+        with tempfile.TemporaryDirectory() as folder:
+            return work(built_over(programs["foreign"], "large", folder))
+    return table
 
 
 if __name__ == "__main__":
-    main()
+    measure(__doc__, {"registers": over_library(registers), "frames": over_library(objects),
+                      "large-heaps": over_library(heaps)})

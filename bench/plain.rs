@@ -1,9 +1,9 @@
 //! A heap written by hand in plain Rust, with the same steps of threads as the library's, the same
-//! tests in the same order and the same refusals (docs/HEAP.md): what `bench/calls.py` puts beside
+//! tests in the same order and the same refusals (docs/STEPS.md): what `bench/calls.py` puts beside
 //! the library's calls. It has no collector, so it stays in `Idle` and no page is ever protected;
 //! the tests of phase, page state and NMT bit are made all the same.
 //!
-//! `plain MIX COUNT` does turns of a mix of `crates/bench/src/mixes.rt`, and prints what they give.
+//! `plain MIX COUNT` does turns of a mix of `crates/bench_calls/src/mixes.rt`, and prints what they give.
 
 use std::{collections::BTreeSet, env, error::Error, hint::black_box};
 

@@ -1,54 +1,49 @@
 #!/usr/bin/env python3
-"""Times the program on generated scripts: python3 bench/run.py [PROGRAM].
+"""Times the program on generated scripts.
 
-Each script has one mix of commands and is timed in four forms, each the best
-of several runs with its output thrown away:
+Each script has one mix of commands, 50,000 or 200,000 of them, in pages of 16 or of 4,096 words, and is timed in four
+forms, each the best of several runs with its output thrown away:
 
   head     the heap line and the layout lines alone: what it costs to start
-  faulty   the whole script with a fault in its last line; the program reads
-           all of a script before its first step, so this one only reads
-  full     the whole script on a heap whose history holds one step: after the
-           first accepted step each command is refused at once, so this one
-           reads, refuses and prints
+  faulty   the complete script with a fault in its last line; the program reads all of a script before its first step,
+           so this one only reads
+  full     the complete script on a heap whose history holds one step: after the first accepted step each command is
+           refused at once, so this one reads, refuses and prints
   whole    the script itself
 
-From these come nanoseconds a command:
+From these come nanoseconds of a processor for each of 200,000 commands:
 
   read     (faulty - head) / commands
   print    (full - faulty) / commands, with the refusal itself
-  step     (whole - full) / commands, an estimate: a refusal's text has
-           another length than the answer's, so it can even be below zero
-  all      (whole - head) / commands
+  step     (whole - full) / commands, an estimate: a refusal's text has another length than the answer's, so it can be
+           below zero
+  all      (whole - head) / commands; and this over the same for 50,000 commands
 
-Then one script of takes, objects, reads and gives runs on heaps of few and of
-many pages. A step's cost must not grow with the heap, so the ratios that are
-printed at the end should be about 1. Once all frames are used up a take is
-refused, after it has looked for a page and a frame in vain; with more pages
-more takes succeed.
+Heaps: one script of takes, objects, reads and gives runs on heaps of few and of many pages. A command's cost must not
+grow with the heap. Once all frames are used up a take is refused, after it has looked for a page and a frame in vain.
 
-Then marks: lists of several lengths are marked and drained by one command, on
-heaps of several sizes, and the time for each object is the difference to the
-same script without the drain and the mark's end. Last, marks of nothing on the
-largest heap, all of whose frames are in use.
+Marks: lists are marked and drained by one command, on heaps of several sizes, and the instructions for each object are
+the difference to the same script without the drain. And marks of nothing, with some frames in use.
 """
 
 import os
-import subprocess
-import sys
 import tempfile
-import time
+
+from measuring import counted, figure, measure, timed
 
 RUNS = 5
-COMMANDS = [50_000, 100_000, 200_000]
+COMMANDS = [50_000, 200_000]
 WORDS = [16, 4096]
 
 # Marks: words of a page, configured pages, threads, and objects of two words in a list.
-MARKS = [(16, 4_096, 2, 1_000), (16, 4_096, 2, 10_000), (16, 65_535, 2, 1_000), (16, 65_535, 2, 28_000),
-         (4_096, 1_000, 2, 1_000), (4_096, 1_000, 2, 10_000), (4_096, 1_000, 2, 90_000),
-         (4_096, 65_535, 2, 90_000), (4_096, 1_000, 64, 90_000)]
+MARKS = [(16, 4_096, 2, 1_000), (16, 4_096, 2, 10_000), (16, 65_535, 2, 28_000), (4_096, 1_000, 2, 1_000),
+         (4_096, 1_000, 2, 10_000), (4_096, 65_535, 2, 40_000), (4_096, 1_000, 64, 40_000)]
+
+# Marks of nothing: frames of 4,096 words in use, and the marks.
+EMPTY_FRAMES = [16, 256, 4_096]
 EMPTY_MARKS = 1_000
 
-# Heaps of several sizes, all with pages of so many words.
+# Heaps of several sizes, all with pages of the same size.
 PAGES = [16, 1_024, 65_535]
 MOST_FRAMES = 4_096
 HEAP_WORDS = 16
@@ -57,23 +52,13 @@ HEAP_BODY = ["t0 take 4", "t0 new r0 0", "t0 datum r0 1", "t0 give"]
 
 
 class Mix:
-    """Commands that are done once, and commands that are repeated.
+    """Commands that are done once, and commands that are repeated. `layout` is the layout line."""
 
-    `body` is a list of commands; the script repeats it up to the wanted number
-    of commands. `layouts` are the layout lines."""
-
-    def __init__(self, name, layouts, start, body):
-        self.name = name
-        self.layouts = layouts
-        self.start = start
-        self.body = body
-
-    def heap_line(self, words, more=""):
-        return (f"heap words {words} frames 1 pages 1 threads 1 workers 1"
-                f" registers 4 globals 0{more}")
+    def __init__(self, layout, start, body):
+        self.layout, self.start, self.body = layout, start, body
 
     def head(self, words, more=""):
-        return [self.heap_line(words, more)] + self.layouts
+        return [f"heap words {words} frames 1 pages 1 threads 1 workers 1 registers 4 globals 0{more}", self.layout]
 
     def commands(self, words, count):
         lines = [line.format(words=words) for line in self.start]
@@ -81,133 +66,80 @@ class Mix:
 
 
 def repeated(body, count):
-    """The body over and over, written out, up to `count` commands. An edition
-    of the program that has blocks can be given a second form here."""
+    """The body over and over, up to `count` commands."""
     return (body * (count // len(body) + 1))[:count]
 
 
-MIXES = [
-    Mix("datum",
-        ["layout 0 2"],
-        ["t0 take {words}", "t0 new r0 0"],
-        ["t0 datum r0 1"]),
-    Mix("set and datum",
-        ["layout 0 2"],
-        ["t0 take {words}", "t0 new r0 0"],
-        ["t0 set r0 1 1234567890", "t0 datum r0 1"]),
-    Mix("registers",
-        ["layout 0 2"],
-        ["t0 take {words}", "t0 new r0 0"],
-        ["t0 mov r1 r0", "t0 same r0 r1", "t0 null r1", "t0 clear r1"]),
+OBJECT = ["t0 take {words}", "t0 new r0 0"]
+MIXES = {
+    "datum": Mix("layout 0 2", OBJECT, ["t0 datum r0 1"]),
+    "set and datum": Mix("layout 0 2", OBJECT, ["t0 set r0 1 1234567890", "t0 datum r0 1"]),
+    "registers": Mix("layout 0 2", OBJECT, ["t0 mov r1 r0", "t0 same r0 r1", "t0 null r1", "t0 clear r1"]),
     # Objects of one word until the page is full, then refusals.
-    Mix("new",
-        ["layout 0 0"],
-        ["t0 take {words}"],
-        ["t0 new r0 0"]),
+    "new": Mix("layout 0 0", ["t0 take {words}"], ["t0 new r0 0"]),
     # Buffers of one word until the page is full, then refusals.
-    Mix("take and give",
-        ["layout 0 0"],
-        [],
-        ["t0 take 1", "t0 give"]),
-]
+    "take and give": Mix("layout 0 0", [], ["t0 take 1", "t0 give"]),
+}
 
 
-def timed(program, path, status):
-    """Seconds of one run; ends the bench where the run has another exit
-    status."""
-    begun = time.perf_counter()
-    done = subprocess.run([program, "run", path],
-                          stdout=subprocess.DEVNULL, stderr=subprocess.DEVNULL)
-    took = time.perf_counter() - begun
-    if done.returncode != status:
-        sys.exit(f"{path}: the program ended with status {done.returncode}, not {status}")
+def best(program, scripts):
+    """The least time of each of some scripts, which take turns; each has its lines and its exit status."""
+    took = dict.fromkeys(scripts, float("inf"))
+    with tempfile.TemporaryDirectory() as folder:
+        paths = {form: written(folder, number, lines) for number, (form, (lines, _)) in enumerate(scripts.items())}
+        for _ in range(RUNS):
+            for form, (_, status) in scripts.items():
+                took[form] = min(took[form], timed([program, "run", paths[form]], status))
     return took
 
 
-def write(path, lines):
+def written(folder, name, lines):
+    path = os.path.join(folder, f"{name}.script")
     with open(path, "w", encoding="ascii") as script:
         script.write("\n".join(lines) + "\n")
+    return path
 
 
-def measure(program, folder, mix, words, count):
+def parts_of(program, mix, words, count):
     """Nanoseconds a command: read, print, step, all."""
     commands = mix.commands(words, count)
-    forms = {
+    took = best(program, {
         "head": (mix.head(words), 0),
         "faulty": (mix.head(words) + commands[:-1] + ["fault"], 2),
         "full": (mix.head(words, " history 1") + commands, 0),
         "whole": (mix.head(words) + commands, 0),
-    }
-    def path(form):
-        return os.path.join(folder, form + ".script")
-
-    for form, (lines, _) in forms.items():
-        write(path(form), lines)
-    # The forms take turns, so that a slow moment doesn't fall on one alone.
-    took = {form: float("inf") for form in forms}
-    for _ in range(RUNS):
-        for form, (_, status) in forms.items():
-            took[form] = min(took[form], timed(program, path(form), status))
-
-    def each(a, b):
-        return (took[a] - took[b]) / count * 1e9
-
-    return (each("faulty", "head"), each("full", "faulty"),
-            each("whole", "full"), each("whole", "head"))
+    })
+    pairs = ("faulty", "head"), ("full", "faulty"), ("whole", "full"), ("whole", "head")
+    return [(took[more] - took[less]) / count * 1e9 for more, less in pairs]
 
 
-def heap_head(pages):
-    """The heap line and the layout line of a heap of so many pages."""
-    frames = min(pages, MOST_FRAMES)
-    return [f"heap words {HEAP_WORDS} frames {frames} pages {pages} threads 1"
-            " workers 1 registers 4 globals 0", "layout 0 2"]
+def scripts(programs):
+    """Nanoseconds a command of each mix."""
+    rows = []
+    for name, mix in MIXES.items():
+        for words in WORDS:
+            few, many = (parts_of(programs["report"], mix, words, count) for count in COMMANDS)
+            rows.append([name, f"{words:,}", *(figure(cost, 0) for cost in many), figure(many[-1] / few[-1], 2)])
+    return ["Mix", "Words a page", "read", "print", "step", "all", f"over {COMMANDS[0]:,} commands"], rows
 
 
-def has_pages(program, folder):
-    """Whether the program knows heaps of several pages."""
-    path = os.path.join(folder, "pages.script")
-    write(path, heap_head(PAGES[0]))
-    done = subprocess.run([program, "run", path],
-                          stdout=subprocess.DEVNULL, stderr=subprocess.DEVNULL)
-    return done.returncode == 0
-
-
-def measure_heaps(program, folder):
+def heaps(programs):
     """Nanoseconds a command of one script, for each number of pages."""
     commands = repeated(HEAP_BODY, HEAP_COMMANDS)
-    took = {}
+    forms = {}
     for pages in PAGES:
-        for form, lines in (("head", []), ("whole", commands)):
-            write(os.path.join(folder, f"{form}{pages}.script"), heap_head(pages) + lines)
-            took[form, pages] = float("inf")
-    for _ in range(RUNS):
-        for form, pages in took:
-            path = os.path.join(folder, f"{form}{pages}.script")
-            took[form, pages] = min(took[form, pages], timed(program, path, 0))
-    return {pages: (took["whole", pages] - took["head", pages]) / HEAP_COMMANDS * 1e9
-            for pages in PAGES}
-
-
-def print_heaps(program, folder):
-    """Times the same script on heaps of several sizes."""
-    if not has_pages(program, folder):
-        print("This edition has no heaps of several pages.")
-        return
-    costs = measure_heaps(program, folder)
-    print("| Pages | Frames | Commands | all |")
-    print("|---|---|---|---|")
-    for pages, cost in costs.items():
-        print(f"| {pages:,} | {min(pages, MOST_FRAMES):,} | {HEAP_COMMANDS:,} | {cost:.1f} |")
-    print()
-    print(f"A command's cost on a heap of more pages, over that on one of {PAGES[0]:,}:")
-    print()
-    for pages in PAGES[1:]:
-        ratio = costs[pages] / costs[PAGES[0]] if costs[PAGES[0]] > 0 else 0.0
-        print(f"- {pages:,} pages: {ratio:.2f}")
+        head = [f"heap words {HEAP_WORDS} frames {min(pages, MOST_FRAMES)} pages {pages} threads 1"
+                " workers 1 registers 4 globals 0", "layout 0 2"]
+        forms |= {("head", pages): (head, 0), ("whole", pages): (head + commands, 0)}
+    took = best(programs["report"], forms)
+    costs = {pages: (took["whole", pages] - took["head", pages]) / HEAP_COMMANDS * 1e9 for pages in PAGES}
+    return ["Pages", "Frames", "a command, ns", f"over {PAGES[0]} pages"], [
+        [f"{pages:,}", f"{min(pages, MOST_FRAMES):,}", figure(cost, 0), figure(cost / costs[PAGES[0]], 2)]
+        for pages, cost in costs.items()]
 
 
 def mark_script(words, pages, threads, objects):
-    """A list of so many objects, and a mark that all threads have crossed."""
+    """A list of objects, and a mark that all threads have crossed."""
     frames = min(pages, MOST_FRAMES)
     head = [f"heap words {words} frames {frames} pages {pages} threads {threads} workers 1"
             " registers 4 globals 1", "layout 1 0"]
@@ -221,74 +153,31 @@ def mark_script(words, pages, threads, objects):
     return head + lines + [f"t0 clear {rest}", "w0 mark"] + [f"t{number} cross" for number in range(threads)]
 
 
-def measure_mark(program, folder, words, pages, threads, objects):
-    """Nanoseconds for each object that a drain finds."""
-    script = mark_script(words, pages, threads, objects)
-    took = {}
-    for form, lines in (("start", script), ("whole", script + ["w0 drain"])):
-        write(os.path.join(folder, form + ".script"), lines)
-        took[form] = float("inf")
-    for _ in range(RUNS):
-        for form in took:
-            took[form] = min(took[form], timed(program, os.path.join(folder, form + ".script"), 0))
-    return (took["whole"] - took["start"]) / objects * 1e9
-
-
-def measure_empty_marks(program, folder):
-    """Microseconds for a mark that finds nothing, on the largest heap with all frames in use."""
-    head = [f"heap words 4096 frames {MOST_FRAMES} pages {MOST_FRAMES} threads 1 workers 1"
-            " registers 1 globals 0", "layout 0 0",
-            f"times {MOST_FRAMES}", "t0 take 4096", "t0 give", "end"]
-    marks = [f"times {EMPTY_MARKS}", "w0 mark", "t0 cross", "w0 endmark", "end"]
-    took = {}
-    for form, lines in (("start", head), ("whole", head + marks)):
-        write(os.path.join(folder, form + ".script"), lines)
-        took[form] = min(timed(program, os.path.join(folder, form + ".script"), 0) for _ in range(RUNS))
-    return (took["whole"] - took["start"]) / EMPTY_MARKS * 1e6
-
-
-def print_marks(program, folder):
-    """Times marks of lists, and of nothing."""
-    print("| Words a page | Pages | Threads | Objects | ns an object |")
-    print("|---|---|---|---|---|")
-    for words, pages, threads, objects in MARKS:
-        cost = measure_mark(program, folder, words, pages, threads, objects)
-        print(f"| {words:,} | {pages:,} | {threads} | {objects:,} | {cost:.1f} |", flush=True)
-    print()
-    cost = measure_empty_marks(program, folder)
-    print(f"A mark of nothing, with {MOST_FRAMES:,} pages of 4,096 words in use: {cost:.1f} microseconds")
-
-
-def main():
-    program = os.path.abspath(sys.argv[1] if len(sys.argv) > 1 else "./pauseless")
-    if not os.access(program, os.X_OK):
-        sys.exit(f"{program} isn't there: run 'make' first")
-    print("Nanoseconds a command, best of", RUNS, "runs.")
-    print()
-    print("| Mix | Words a page | Commands | read | print | step | all |")
-    print("|---|---|---|---|---|---|---|")
-    growth = []
+def counted_marks(programs):
+    """Instructions for each object that a drain finds."""
+    rows = []
     with tempfile.TemporaryDirectory() as folder:
-        for mix in MIXES:
-            for words in WORDS:
-                alls = []
-                for count in COMMANDS:
-                    numbers = measure(program, folder, mix, words, count)
-                    alls.append(numbers[3])
-                    cells = " | ".join(f"{n:.1f}" for n in numbers)
-                    print(f"| {mix.name} | {words} | {count:,} | {cells} |", flush=True)
-                growth.append((mix.name, words, alls[-1] / alls[0] if alls[0] > 0 else 0.0))
-    print()
-    print(f"A command's cost at {COMMANDS[-1]:,} commands, over that at {COMMANDS[0]:,}:")
-    print()
-    for name, words, ratio in growth:
-        print(f"- {name}, {words} words a page: {ratio:.2f}")
-    print()
-    with tempfile.TemporaryDirectory() as folder:
-        print_heaps(program, folder)
-        print()
-        print_marks(program, folder)
+        for words, pages, threads, objects in MARKS:
+            script = mark_script(words, pages, threads, objects)
+            less, more = (counted([programs["report"], "run", written(folder, "mark", lines)])
+                          for lines in (script, script + ["w0 drain"]))
+            cost = (more - less) / objects
+            rows.append([f"{words:,}", f"{pages:,}", str(threads), f"{objects:,}", figure(cost, 0)])
+    return ["Words a page", "Pages", "Threads", "Objects", "instructions an object"], rows
+
+
+def empty_marks(programs):
+    """Microseconds for a mark that finds nothing, with some frames in use."""
+    rows = []
+    for frames in EMPTY_FRAMES:
+        head = [f"heap words 4096 frames {frames} pages {frames} threads 1 workers 1 registers 1 globals 0",
+                "layout 0 0", f"times {frames}", "t0 take 4096", "t0 give", "end"]
+        marks = [f"times {EMPTY_MARKS}", "w0 mark", "t0 cross", "w0 endmark", "end"]
+        took = best(programs["report"], {"head": (head, 0), "whole": (head + marks, 0)})
+        rows.append([f"{frames:,}", figure((took["whole"] - took["head"]) / EMPTY_MARKS * 1e6)])
+    return ["Pages of 4,096 words in use", "a mark of nothing, us"], rows
 
 
 if __name__ == "__main__":
-    main()
+    measure(__doc__, {"script-marks-instructions": counted_marks, "scripts": scripts, "heaps": heaps,
+                      "empty-marks": empty_marks})

@@ -1,7 +1,7 @@
 #!/usr/bin/env python3
-"""Times threads that make, share and read back lists, and the same on the JVM's ZGC: python3 bench/zgc.py [LISTS].
+"""Times threads that make, share and read back lists, and the same on the JVM's ZGC.
 
-The program is that of the crate `lists`, by its work of that name; `bench/Lists.java` has the same, and is compiled
+The program is that of the crate `bench_lists`, by its work `lists`; `bench/Lists.java` has the same, and is compiled
 here. If Java, its compiler or its ZGC isn't there, a line says so, and nothing is measured. Our heap has 32 MiB, the
 JVM's as many or 128. The runs of all take turns. Objects a second are the best of several runs, the longest wait and
 the longest stop the least of them, since a run in which a thread was put aside shows longer ones.
@@ -11,16 +11,14 @@ A wait of ZGC's is an allocation stall, and a stop a safepoint of all threads, a
 tenth of the work without being timed, so that its compiler has done its own.
 """
 
-import argparse
 import functools
 import os
 import re
 import shutil
 import subprocess
-import sys
 import tempfile
 
-from measuring import lines
+from measuring import lines, measure
 
 RUNS = 5
 THREADS = [1, 2, 4]
@@ -74,7 +72,7 @@ def zgc(folder, size, threads):
     return 1e9 * int(count) / int(nanos), collections, max(stalls, default=0), max(stops, default=0)
 
 
-def print_lists(program, folder):
+def compared(program, folder):
     """Runs of both."""
     names = {"a `SharedHeap`, 32 MiB": functools.partial(ours, program)}
     names |= {f"ZGC, {size} MiB": functools.partial(zgc, folder, size) for size in SIZES}
@@ -82,24 +80,19 @@ def print_lists(program, folder):
     for _ in range(RUNS):
         for (name, threads), runs in found.items():
             runs.append(names[name](threads))
-    print("| Heap | Threads | seconds | million objects a second | collections | longest wait, ms | longest stop, ms |")
-    print("|---|---|---|---|---|---|---|")
+    rows = []
     for (name, threads), runs in found.items():
         speeds, collections, waits, stops = zip(*runs)
-        took = f"{1e3 * LISTS / max(speeds):.2f} | {max(speeds) / 1e6:.1f}"
-        print(f"| {name} | {threads} | {took} | {max(collections)} | {min(waits) / 1e6:.2f} | {min(stops) / 1e6:.2f} |")
+        rows.append([name, str(threads), f"{1e3 * LISTS / max(speeds):.2f}", f"{max(speeds) / 1e6:.1f}",
+                     str(max(collections)), f"{min(waits) / 1e6:.2f}", f"{min(stops) / 1e6:.2f}"])
+    return ["Heap", "Threads", "seconds", "million objects a second", "collections", "longest wait, ms",
+            "longest stop, ms"], rows
 
 
-def main():
-    parser = argparse.ArgumentParser(description="Times lists on a shared heap, and on the JVM's ZGC.")
-    parser.add_argument("program", nargs="?", default="crates/lists/out/lists")
-    program = os.path.abspath(parser.parse_args().program)
-    if not os.access(program, os.X_OK):
-        sys.exit(f"{program} isn't there: run 'make bench'")
+def lists(programs):
     with tempfile.TemporaryDirectory() as folder:
-        if compiled(folder):
-            print_lists(program, folder)
+        return compared(programs["bench_lists"], folder) if compiled(folder) else None
 
 
 if __name__ == "__main__":
-    main()
+    measure(__doc__, {"lists": lists})

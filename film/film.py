@@ -1,7 +1,7 @@
 #!/usr/bin/env python3
 """Makes one HTML file of the states of a heap: python3 film/film.py TITLE < STATES > FILE
 
-The states are those that the program 'states' writes, as docs/FILM.md has them. The file needs nothing from outside.
+The states are the output of the program 'script_states', which docs/FILM.md describes. The file is self-contained.
 """
 
 import json

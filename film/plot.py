@@ -1,8 +1,8 @@
 #!/usr/bin/env python3
 """Makes one HTML file of a long run's counts: python3 film/plot.py TITLE < COUNTS > FILE
 
-The counts are those that the program 'states' writes where it is told behind how many commands; docs/FILM.md has the
-form. The file needs nothing from outside.
+The counts are the output of the program 'script_states' with a number of commands; docs/FILM.md describes it. The file
+is self-contained.
 """
 
 import os

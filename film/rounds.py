@@ -1,9 +1,8 @@
 #!/usr/bin/env python3
 """Writes a long script for a plot: python3 film/rounds.py > SCRIPT
 
-A stack of objects grows for some rounds and shrinks for as many, twice, beside objects that nobody keeps. Behind each
-round the heap is marked, and pages of which at most half is live are emptied. Which these are is looked up in the
-model of the heap that the tests have.
+A stack of objects grows for some rounds and shrinks for as many, twice, among objects that are garbage at once. After
+each round the heap is marked, and pages that are at most half live are emptied; the model of the tests finds them.
 """
 
 import os

@@ -1,4 +1,4 @@
-"""One sentence or two on what a step has done, in the words of docs/HEAP.md."""
+"""One sentence or two on what a step has done, in the words of docs/STEPS.md."""
 
 REFUSALS = {
     "BadIndex": "a number of the step names nothing",

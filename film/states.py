@@ -1,4 +1,4 @@
-"""Reads the states that the program 'states' writes; docs/FILM.md has the form of the lines."""
+"""Reads the output of the program 'script_states'; docs/FILM.md describes the lines."""
 
 import re
 

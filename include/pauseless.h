@@ -1,23 +1,25 @@
-/* The heap of Click, Tene and Wolf, "The Pauseless GC Algorithm" (VEE 2005), for C. docs/C.md says how to build and
- * link it, with the smallest program, and what of it is proved.
+/* The heap of Click, Tene and Wolf, "The Pauseless GC Algorithm" (VEE 2005), for C. docs/C.md describes how to build
+ * and link it, with the smallest program, and which parts are proved.
  *
- * One call at a time: the library takes no lock. The caller has one thread of the system, or holds a lock of its own
- * round each call; the threads of a heap are numbers, whatever calls for them. No call is made from a signal handler,
- * or in the forked child of a program with threads.
+ * One call at a time: the library takes no lock. The caller has one system thread, or holds its own lock during each
+ * call; the threads of a heap are numbers, whichever thread calls for them. Make no call from a signal handler, or in
+ * the forked child of a program with threads.
  *
- * Nothing can check that a pointer leads where its type says, that a handle is the only copy of itself, and that its
- * words are those which the library wrote. Copy no handle, and write nothing to one but PAUSELESS_NONE before its
- * first use. A handle without a heap, as one that was let go, is told by its mark, and answers PAUSELESS_NO_HEAP.
+ * The library can't check that a pointer leads where its type says, that a handle is the only copy of itself, or that
+ * its words are those that the library wrote. Copy no handle, and write nothing to one but PAUSELESS_NONE before its
+ * first use. A handle without a heap, as one that was freed, is recognized by its mark: calls return
+ * PAUSELESS_NO_HEAP.
  *
- * Threads, registers, globals, layouts, references and data are numbers from 0. Objects have no address here: a
- * register names one, and registers and globals are all the roots. An object's references come first, then its data,
- * each counted from 0. Each call answers a code; where that isn't PAUSELESS_DONE, what was asked for wasn't done, and
- * what a pointer leads to isn't written; of pauseless_loads alone a part may be done. No call ends the program. */
+ * Threads, registers, globals, layouts, references and data words are numbers from 0. Objects have no address here: a
+ * register names one, and registers and globals are all the roots. An object's references come first, then its data
+ * words, each counted from 0. Each call returns a code. If it isn't PAUSELESS_DONE, the requested operation did not
+ * happen, and nothing is written through the call's pointers, except as described at pauseless_loads, of which a part
+ * may be done, pauseless_get_many and pauseless_read_bytes. No call ends the program. */
 #ifndef PAUSELESS_H
 #define PAUSELESS_H
 
 /* The version of the library, by https://semver.org. */
-#define PAUSELESS_VERSION "3.0.0"
+#define PAUSELESS_VERSION "4.0.0"
 
 #include <stdbool.h>
 #include <stddef.h>
@@ -27,7 +29,7 @@
 extern "C" {
 #endif
 
-/* A handle: a mark, and where the heap is. */
+/* A handle: a mark, and a pointer to the heap. */
 typedef struct pauseless_heap {
     uint64_t mark;
     void *held;
@@ -36,11 +38,11 @@ typedef struct pauseless_heap {
 /* A handle without a heap: pauseless_heap heap = PAUSELESS_NONE; */
 #define PAUSELESS_NONE {0, NULL}
 
-/* The codes, each with its text; the texts are those of pauseless_text. The codes from 256 on say more than the code of
+/* The codes, each with its text; the texts are those of pauseless_text. The codes from 256 on are more specific than
  * their class, which pauseless_class returns: NO_REGISTER, NO_GLOBAL, NO_LAYOUT, NO_FIELD, NO_DATUM and BAD_WORDS are
  * of the class BAD_INDEX, OBJECT_TOO_LARGE of NO_ROOM, LAYOUT_TOO_LARGE of RANGE_OF_LAYOUTS, and POLICY_WORDS,
- * POLICY_FREE and POLICY_PERCENT of BAD_POLICY. A program that only asks for a class still works if a later version
- * says more.
+ * POLICY_FREE and POLICY_PERCENT of BAD_POLICY. A program that only tests the class still works if a later version is
+ * more specific.
  *
  * A program that uses a heap by these calls alone should expect NO_HEAP, HAS_HEAP, NO_ACTOR, BAD_INDEX and its class,
  * NULL, NO_ROOM and its class, HAS_BUFFER, NO_FRAMES, NO_PAGES, BIRTHS, MEMORY and the class BAD_POLICY; and
@@ -104,7 +106,7 @@ typedef struct pauseless_heap {
 typedef enum pauseless_code { PAUSELESS_CODES(PAUSELESS_CODE) } pauseless_code;
 #undef PAUSELESS_CODE
 
-/* The text of a code. */
+/* Returns the text of a code. */
 static inline const char *pauseless_text(uint32_t code) {
     switch (code) {
 #define PAUSELESS_CODE(name, number, text) \
@@ -115,7 +117,7 @@ static inline const char *pauseless_text(uint32_t code) {
     }
 }
 
-/* The class of a code: for a code from 256 on the one that it says more than, else the code itself. */
+/* Returns the class of a code: for a code from 256 on the less specific code, else the code itself. */
 static inline pauseless_code pauseless_class(uint32_t code) { return (pauseless_code)(code & 255); }
 
 /* The sizes and limits of a heap. */
@@ -124,27 +126,29 @@ typedef struct pauseless_sizes {
     uint32_t frames;    /* the frames, each the memory of one page: 1 to 1,048,575 */
     uint32_t pages;     /* the page numbers: at least as many as frames, to 1,048,575 */
     uint32_t threads;   /* 1 to 1,024 */
-    uint32_t workers;   /* the collector's: 1 to 16; these calls use the first alone */
+    uint32_t workers;   /* of the collector: 1 to 16; these calls use only the first */
     uint32_t registers; /* of each thread: 1 to 65,535 */
     uint32_t globals;   /* 0 to 65,535 */
     uint64_t births;    /* how many objects may be born: 1 to 2^56 */
 } pauseless_sizes;
 
-/* How many references, and how many data of 64 bits, an object has: 0 to 1,023 each. It has a header besides, and one
- * object has to fit a page. */
+/* How many references, and how many data words of 64 bits, an object has: 0 to 1,023 each. It also has a header, and
+ * has to fit into a page. */
 typedef struct pauseless_layout {
     uint16_t refs, nums;
 } pauseless_layout;
 
-/* When a heap is collected for a fresh buffer. A call with a policy returns POLICY_WORDS, POLICY_FREE or POLICY_PERCENT
- * for the first field that is out of its range, and does nothing. */
+/* When a heap is collected for a fresh allocation buffer. A call with a policy returns POLICY_WORDS, POLICY_FREE or
+ * POLICY_PERCENT for the first field that is out of its range, and does nothing. */
 typedef struct pauseless_policy {
     uint32_t words;   /* of a fresh buffer: 1 to the words of a page, and at least those of any object that is made */
-    uint32_t free;    /* the heap is collected where at most so many frames are free: 0 to the frames */
-    uint32_t percent; /* pages of which at most so many words of a hundred are live are emptied: 0 to 100 */
-    uint32_t budget;  /* 0: the heap is collected by one call; any other: pauseless_make and pauseless_make_with collect it
-                       * in parts, each of which scans at most so many objects: two parts for a fresh buffer, while at
-                       * most free frames are free or such a collection has begun */
+    uint32_t free;    /* the heap is collected if at most this many frames are free, and enough pages were opened since
+                       * the last mark, half as many as frames are free or a sixteenth of those in use: 0 to the
+                       * frames */
+    uint32_t percent; /* pages of which at most this many words of a hundred are live are emptied: 0 to 100 */
+    uint32_t budget;  /* 0: the heap is collected by one call; else pauseless_make and pauseless_make_with collect it in
+                       * parts, each of which scans at most this many objects: a fresh buffer does its share of them,
+                       * which grows as frames run out, and all that are left if a quarter of free are free */
 } pauseless_policy;
 
 /* One of several loads: a register that gets a reference of an object. */
@@ -153,35 +157,35 @@ typedef struct pauseless_field_load {
     uint32_t field;  /* the reference's number */
 } pauseless_field_load;
 
-/* What a register names. */
+/* An object that a register names. */
 typedef struct pauseless_object {
     uint64_t birth;  /* how many objects were born before it; it stays when the object moves */
     uint32_t layout; /* the number of its layout */
     uint16_t refs, nums;
 } pauseless_object;
 
-/* What a collection has done: how many objects it found to live, and how many pages it emptied. */
+/* The result of a collection: how many live objects it found, and how many pages it emptied. */
 typedef struct pauseless_collected {
     uint64_t live, emptied;
 } pauseless_collected;
 
-/* What there is of a heap. */
+/* The sizes of a heap, and its births and free frames. */
 typedef struct pauseless_counts {
     uint64_t births; /* the objects that were born */
     uint32_t words;  /* of a page */
     uint32_t frames;
-    uint32_t free; /* the frames that no page has */
+    uint32_t free; /* the frames without a page */
 } pauseless_counts;
 
-/* What a heap has come to since it was made. Each number stops at the greatest of its type. Whether a call has
- * collected is seen by the sum of by_calls, by_policy, by_room and parts, which has grown then. */
+/* The counters of a heap since it was made. Each number stops at the greatest of its type. A call has collected if
+ * the sum of by_calls, by_policy, by_room and parts has grown. */
 typedef struct pauseless_statistics {
     uint64_t births; /* the objects that were born */
-    uint64_t live;   /* those that the last complete collection has found to live */
-    uint64_t by_calls;  /* complete collections that have begun: asked for by pauseless_collect; */
+    uint64_t live;   /* the live ones that the last complete collection has found */
+    uint64_t by_calls;  /* complete collections that have begun: requested by pauseless_collect; */
     uint64_t by_policy; /* for a fresh buffer, as at most policy.free frames were free; */
-    uint64_t by_room;   /* for a fresh buffer, as there was no room for one */
-    uint64_t ended;     /* how many of all these have ended; MEMORY was refused to the others, or a load was open */
+    uint64_t by_room;   /* for a fresh buffer, as there was no space for one */
+    uint64_t ended;     /* how many of all these have ended; the others were out of MEMORY, or a load was open */
     uint64_t by_parts;  /* collections in parts that have begun */
     uint64_t parts;     /* the parts that were done, by pauseless_collect_some or for a fresh buffer */
     uint64_t ended_in_parts; /* collections in parts that have ended */
@@ -195,34 +199,34 @@ typedef struct pauseless_statistics {
     uint32_t most_used; /* the most that were in use after a call that may collect */
 } pauseless_statistics;
 
-/* Making a heap, and letting it go */
+/* Making and freeing a heap */
 
-/* Sizes that serve most heaps: twice as many page numbers as frames, one thread of 16 registers, one worker, 64
- * globals, and as many births as there may be. */
+/* Writes the sizes that serve most heaps: twice as many page numbers as frames, one thread of 16 registers, one
+ * worker, 64 globals, and the most births. */
 void pauseless_usual(uint32_t words, uint32_t frames, pauseless_sizes *sizes);
 
 /* Makes a heap with layouts numbered from 0: 1 to 256 of them. Its registers, globals and a record for each page number
- * are asked for here, by malloc; the words of a page, and some bits for each of them, when the page is opened.
+ * are allocated here, by malloc; the words of a page, and some bits for each of them, when the page is opened.
  * RANGE_OF_.. for the first size that is out of its range, LAYOUT_TOO_LARGE for a layout, HAS_HEAP, MEMORY. */
 pauseless_code pauseless_new(pauseless_heap *heap, const pauseless_sizes *sizes, const pauseless_layout *layouts,
                              size_t count);
 
-/* Lets the heap go, with all its memory; nothing, where the handle has none. */
+/* Frees the heap with all its memory; does nothing if the handle has none. */
 void pauseless_free(pauseless_heap *heap);
 
-/* Objects. Each of these, and each call below, answers NO_HEAP for a handle without a heap, NO_ACTOR for a thread that
+/* Objects. Each of these, and each call below, returns NO_HEAP for a handle without a heap, NO_ACTOR for a thread that
  * isn't there, and for any other number that names nothing NO_REGISTER, NO_GLOBAL, NO_LAYOUT, NO_FIELD (a reference's
  * number) or NO_DATUM. If several numbers name nothing, a register comes first. */
 
-/* Makes an object in a register, with null references and data of 0. Where the thread's buffer has no room for it, it
- * gets a fresh one first, for which the heap is collected by the policy. NO_FRAMES or NO_PAGES: the heap is full;
- * OBJECT_TOO_LARGE; BIRTHS; MEMORY, also if memory for a fresh page was refused; POLICY_... */
+/* Makes an object in a register, with null references and data words of 0. If the thread's buffer has no space for it,
+ * it gets a fresh one first, for which the heap is collected by the policy. NO_FRAMES or NO_PAGES: the heap is full;
+ * OBJECT_TOO_LARGE; BIRTHS; MEMORY, also if there is none for a fresh page; POLICY_... */
 pauseless_code pauseless_make(pauseless_heap *heap, const pauseless_policy *policy, uint32_t thread, uint32_t target,
                               uint32_t layout);
 
-/* Makes an object as pauseless_make does, stores in its first references what count registers name, and writes size
- * words to its first data; the other references are null, and the other data 0. If target is one of the registers, it
- * names the new object there. NO_FIELD or NO_DATUM if the layout has fewer references or data; else as
+/* Makes an object as pauseless_make does, stores count registers in its first references, and writes size words to its
+ * first data words; the other references are null, and the other data words 0. If target is one of the registers, it
+ * names the new object there. NO_FIELD or NO_DATUM if the layout has fewer references or data words; else as
  * pauseless_make. */
 pauseless_code pauseless_make_with(pauseless_heap *heap, const pauseless_policy *policy, uint32_t thread,
                                    uint32_t target, uint32_t layout, const uint32_t *sources, size_t count,
@@ -231,109 +235,124 @@ pauseless_code pauseless_make_with(pauseless_heap *heap, const pauseless_policy 
 /* Makes an object in the buffer that the thread has. NO_ROOM: there is none, or it is too small; BIRTHS. */
 pauseless_code pauseless_new_object(pauseless_heap *heap, uint32_t thread, uint32_t target, uint32_t layout);
 
-/* Takes a buffer of words for a thread, without a collection. BAD_WORDS for words that no page has; HAS_BUFFER;
- * NO_FRAMES, NO_PAGES; MEMORY if memory for a fresh page was refused. */
+/* Takes a buffer of words for a thread, without a collection. BAD_WORDS unless words is 1 to the words of a page;
+ * HAS_BUFFER; NO_FRAMES, NO_PAGES; MEMORY if there is none for a fresh page. */
 pauseless_code pauseless_take(pauseless_heap *heap, uint32_t thread, uint32_t words);
 
-/* Gives a thread's buffer back, whose rest is lost until its page is emptied. NO_ROOM where there is none. */
+/* Gives back a thread's buffer, whose rest is unused until its page is emptied. NO_ROOM if there is none. */
 pauseless_code pauseless_give_back(pauseless_heap *heap, uint32_t thread);
 
-/* A fresh buffer for a thread, as pauseless_make gets it. NO_FRAMES, NO_PAGES, MEMORY, POLICY_... */
+/* Gets a thread a fresh buffer, as pauseless_make does. NO_FRAMES, NO_PAGES, MEMORY, POLICY_... */
 pauseless_code pauseless_refill(pauseless_heap *heap, const pauseless_policy *policy, uint32_t thread);
 
-/* Tells what object a register names. NULL. */
+/* Writes which object a register names. NULL. */
 pauseless_code pauseless_look(pauseless_heap *heap, uint32_t thread, uint32_t reg, pauseless_object *object);
 
-/* References. NULL where the register of an object is null. */
+/* References. NULL if the register of an object is null. */
 
-/* A register gets what an object's reference leads to: the read barrier, whole. */
+/* Loads a reference of an object into a register, through the complete read barrier. */
 pauseless_code pauseless_load(pauseless_heap *heap, uint32_t thread, uint32_t target, uint32_t object, uint32_t field);
 
-/* Several of these loads of one object, in order. A load into the object's own register comes last, as loads after it
- * are of what the register names then. Stops at the first load that isn't done, and answers as that one does; *done is
- * how many are done, and is always written. */
+/* Does several of these loads from one object, in order. A load into the object's own register comes last, as loads
+ * after it are from the object that the register names then. Stops at the first load that fails, and returns its code;
+ * *done is how many are done, and is always written. */
 pauseless_code pauseless_loads(pauseless_heap *heap, uint32_t thread, uint32_t object,
                                const pauseless_field_load *fields, size_t count, uint64_t *done);
 
-/* An object's reference leads to what a register names, or nowhere. */
+/* Stores a register's reference, which may be null, in a reference of an object. */
 pauseless_code pauseless_store(pauseless_heap *heap, uint32_t thread, uint32_t object, uint32_t field, uint32_t source);
 
-/* The same of a global. */
+/* Load a global into a register, and store a register in a global. */
 pauseless_code pauseless_load_global(pauseless_heap *heap, uint32_t thread, uint32_t target, uint32_t global);
 pauseless_code pauseless_store_global(pauseless_heap *heap, uint32_t thread, uint32_t global, uint32_t source);
 
-/* A register names what another one names; or nothing. */
+/* Copy a register to another one, and make a register null. */
 pauseless_code pauseless_copy(pauseless_heap *heap, uint32_t thread, uint32_t target, uint32_t source);
 pauseless_code pauseless_clear(pauseless_heap *heap, uint32_t thread, uint32_t target);
 
-/* Whether two registers name the same object, or both none; and whether one names none. */
+/* Write whether two registers name the same object, or both none; and whether one names none. */
 pauseless_code pauseless_same(pauseless_heap *heap, uint32_t thread, uint32_t left, uint32_t right, bool *is_so);
 pauseless_code pauseless_is_null(pauseless_heap *heap, uint32_t thread, uint32_t reg, bool *is_so);
 
-/* Data. NULL where the register of the object is null. */
+/* Data words. NULL if the register of the object is null. */
 
 pauseless_code pauseless_get(pauseless_heap *heap, uint32_t thread, uint32_t object, uint32_t index, uint64_t *value);
 pauseless_code pauseless_set(pauseless_heap *heap, uint32_t thread, uint32_t object, uint32_t index, uint64_t value);
 
-/* Several data of an object, from number first on: as a call of pauseless_get or pauseless_set for each, with one look
- * at the object. NO_DATUM if the object has fewer: pauseless_set_many has written nothing then, and after
- * pauseless_get_many nothing is said of values. */
+/* Read and write several data words of an object, from number first on: as a call of pauseless_get or pauseless_set for
+ * each, but the object is looked up once. NO_DATUM if the object has fewer: pauseless_set_many has written nothing
+ * then, and after pauseless_get_many values is unspecified. */
 pauseless_code pauseless_get_many(pauseless_heap *heap, uint32_t thread, uint32_t object, uint32_t first,
                                   uint64_t *values, size_t size);
 pauseless_code pauseless_set_many(pauseless_heap *heap, uint32_t thread, uint32_t object, uint32_t first,
                                   const uint64_t *values, size_t size);
 
+/* Copies count data words of the source, from number first_of_source on, to the target, from number first on: as
+ * pauseless_get_many and then pauseless_set_many, so the two may be one object and overlap, as in memmove. NO_DATUM if
+ * one of them has fewer. If the call fails, nothing is written. */
+pauseless_code pauseless_copy_data(pauseless_heap *heap, uint32_t thread, uint32_t target, uint32_t first,
+                                   uint32_t source, uint32_t first_of_source, size_t count);
+
+/* Read and write bytes of an object's data words, from byte offset on: 0 to 8 times the data words. Byte i is byte
+ * i % 8 of data word i / 8, the lowest byte of a word first. pauseless_write_bytes keeps the other bytes of the words
+ * that it writes. NO_DATUM if the object has fewer: pauseless_write_bytes has written nothing then, and after
+ * pauseless_read_bytes bytes is unspecified. */
+pauseless_code pauseless_read_bytes(pauseless_heap *heap, uint32_t thread, uint32_t object, uint32_t offset,
+                                    void *bytes, size_t size);
+pauseless_code pauseless_write_bytes(pauseless_heap *heap, uint32_t thread, uint32_t object, uint32_t offset,
+                                     const void *bytes, size_t size);
+
 /* Collections. pauseless_make and pauseless_refill collect by themselves. */
 
-/* A whole collection, which empties pages of which at most so many words of a hundred are live: 0 to 100. MEMORY,
- * POLICY_PERCENT. */
+/* Does a complete collection, which empties pages of which at most percent words of a hundred are live: 0 to 100.
+ * MEMORY, POLICY_PERCENT. */
 pauseless_code pauseless_collect(pauseless_heap *heap, uint32_t percent, pauseless_collected *done);
 
-/* The next part of a collection, for a caller that can't stop for a whole one; budget is how many objects it may scan.
- * *has_ended where it was the last one, and the next part begins another. MEMORY, POLICY_PERCENT. */
+/* Does the next part of a collection, for a caller that can't stop for a complete one; budget is how many objects it
+ * may scan. *has_ended if it was the last one, and the next part begins another. MEMORY, POLICY_PERCENT. */
 pauseless_code pauseless_collect_some(pauseless_heap *heap, uint32_t percent, uint32_t budget, bool *has_ended);
 
-/* Reading the whole heap without steps, in any phase of a collection. An object is read by its place, which is valid
- * until another call than these is made; 0 is the place of null. These calls write nothing to the heap. NULL where the
- * place of an object is 0, and BAD_INDEX for a number that no object's place is. */
+/* Reading the complete heap without steps, in any phase of a collection. An object is read by its place, which is
+ * valid until a call other than these is made; 0 is the place of null. These calls write nothing to the heap. NULL if
+ * the place of an object is 0, and BAD_INDEX for a number that isn't an object's place. */
 
-/* Tells the place of what a register or a global names, or of what an object's reference leads to. */
+/* Write the place of the object that a register, a global or a reference of an object names. */
 pauseless_code pauseless_view_register(pauseless_heap *heap, uint32_t thread, uint32_t reg, uint64_t *place);
 pauseless_code pauseless_view_global(pauseless_heap *heap, uint32_t global, uint64_t *place);
 pauseless_code pauseless_view_load(pauseless_heap *heap, uint64_t object, uint32_t field, uint64_t *place);
 
-/* Reads a datum of an object, and tells what object is at a place. */
+/* Read a data word of an object, and write which object is at a place. */
 pauseless_code pauseless_view_get(pauseless_heap *heap, uint64_t object, uint32_t index, uint64_t *value);
 pauseless_code pauseless_view_look(pauseless_heap *heap, uint64_t place, pauseless_object *object);
 
-/* Looking at the heap */
+/* Counts, statistics and reports */
 
 pauseless_code pauseless_count(pauseless_heap *heap, pauseless_counts *counts);
 
-/* Tells what the heap and its collections have come to. Takes time in proportion to the threads. */
+/* Writes the counters of the heap and its collections. The time is linear in the threads. */
 pauseless_code pauseless_get_statistics(pauseless_heap *heap, pauseless_statistics *statistics);
 
-/* Memory of frames that became free is kept for the next pages. Tells of how many frames that is: at most as many as
- * are free. */
+/* Memory of frames that became free, or that a collection in parts has prepared, is kept for the next pages. Writes of
+ * how many frames: at most as many as are free. */
 pauseless_code pauseless_kept(pauseless_heap *heap, uint64_t *frames);
 
-/* Gives kept memory back to malloc, except that of as many frames as are given. Nothing of the heap changes. */
+/* Releases kept memory to malloc, except that of the given number of frames. The state of the heap stays. */
 pauseless_code pauseless_trim(pauseless_heap *heap, uint32_t frames);
 
 /* Lets the heap's memory follow what lives in it. From now on pauseless_make, pauseless_make_with and pauseless_refill
- * also collect where N frames are used. N is what was used after the last collection and growth percent more, at least
- * one more and at least least; before a first collection, least. Memory of free frames beyond that is given back
+ * also collect if N frames are used. N is the frames that were used after the last collection and growth percent more,
+ * at least one more and at least least; before a first collection, least. Memory of free frames beyond that is released
  * after a collection. 100 lets a heap double; least keeps a small one from being collected too often. */
 pauseless_code pauseless_set_growth(pauseless_heap *heap, uint32_t least, uint32_t growth);
 
-/* Whether the heap is sound as it stands; its time is linear in the words of all frames and pages. DONE by contract,
- * unless MEMORY was refused: UNSOUND says that memory was overwritten from outside, or that a proof doesn't hold. */
+/* Verifies that the heap is sound in its current state, in time linear in the words of all frames and pages. DONE by
+ * contract, or MEMORY: UNSOUND means that memory was overwritten from outside, or that a proof doesn't hold. */
 pauseless_code pauseless_verify(pauseless_heap *heap);
 
-/* Writes how the heap stands, in lines of ASCII text: the phase, each page in use, each thread, each global, and what
- * the loads of each thread have come to. docs/SCRIPT.md describes the lines, under 'The report'. Of the text, the first
- * size bytes are written to where text leads, with no byte 0 behind them; *length is that of the whole, so a caller may
- * ask with a size of 0 first. MEMORY. */
+/* Writes the state of the heap, in lines of ASCII text: the phase, each page in use, each thread, each global, and the
+ * barrier counters of each thread. docs/SCRIPT.md describes the lines, under 'The report'. The first size bytes of the
+ * text are written to text, with no byte 0 after them; *length is that of the complete text, so a caller may call with
+ * a size of 0 first. MEMORY. */
 pauseless_code pauseless_report(pauseless_heap *heap, char *text, size_t size, uint64_t *length);
 
 #ifdef __cplusplus

@@ -1,9 +1,9 @@
-/* Threads that share a heap: a lock, portions of many calls, views that read the heap at the same time, and a thread
+/* A heap that threads share: a lock, portions of many calls, views that read the heap at the same time, and a thread
  * that collects between portions.
  *
  * A thread has the heap for a portion: from pauseless_enter to pauseless_leave. In it any call of pauseless.h may be
  * made, with the number of the thread's own registers. pauseless_rest is a safepoint: if another thread waits, and the
- * portion has lasted for long enough, others have the heap before it goes on. Between portions a thread never delays a
+ * portion has lasted long enough, others have the heap before it continues. Between portions a thread never delays a
  * collection. In a portion never wait for another thread, and don't enter again.
  *
  * The lock is the system's, and nothing here is proved: the calls of pauseless.h are. Link with -pthread. */
@@ -17,13 +17,13 @@
 
 #include "pauseless.h"
 
-/* A heap that is shared. It must not be moved while threads use it. */
+/* A shared heap. It must not be moved while threads use it. */
 typedef struct pauseless_shared {
     pauseless_heap *heap;
-    uint32_t rests;          /* a portion lasts for at least as many rests, while others wait */
+    uint32_t rests;          /* a portion lasts for at least this many rests, while others wait */
     atomic_uint wanted;      /* how many threads wait for the heap */
     pthread_mutex_t turn;    /* held while a thread waits for the heap, so that they have it in their order */
-    pthread_mutex_t lock;    /* of the heap while views is 0, and of all below */
+    pthread_mutex_t lock;    /* of the heap while views is 0, and of all fields below */
     pthread_cond_t closing, viewed; /* is_closed has changed; views is 0 again */
     uint32_t views;          /* how many threads read the heap */
     bool is_closed, has_begun, has_collector;
@@ -47,7 +47,7 @@ static inline bool pauseless_share(pauseless_shared *shared, pauseless_heap *hea
            pthread_cond_init(&shared->closing, NULL) == 0 && pthread_cond_init(&shared->viewed, NULL) == 0;
 }
 
-/* Waits for the lock, for as many views to end as may be left. */
+/* Waits for the lock, and until at most `views` views are left. */
 static inline void pauseless_wait(pauseless_shared *shared, uint32_t views) {
     atomic_fetch_add(&shared->wanted, 1);
     pthread_mutex_lock(&shared->turn);
@@ -57,26 +57,26 @@ static inline void pauseless_wait(pauseless_shared *shared, uint32_t views) {
     atomic_fetch_sub(&shared->wanted, 1);
 }
 
-/* Lets others have the heap, which this thread has released: until none waits, or up to 1,000 times. */
+/* Yields to threads that wait for the heap, which this thread has released: until none waits, or up to 1,000 times. */
 static inline void pauseless_give_way(pauseless_shared *shared) {
     for (int turn = 0; turn < 1000 && atomic_load(&shared->wanted) > 0; turn++) sched_yield();
 }
 
-/* Begins a view, never in a portion: threads read the heap at the same time, by the calls pauseless_view_.. alone. */
+/* Begins a view, never in a portion: threads read the heap at the same time, only by the calls pauseless_view_.. */
 static inline void pauseless_begin_view(pauseless_shared *shared) {
     pauseless_wait(shared, UINT32_MAX);
     shared->views++;
     pthread_mutex_unlock(&shared->lock);
 }
 
-/* Ends a view: the places that it was told mean nothing any more. */
+/* Ends a view: the places that it has read are no longer valid. */
 static inline void pauseless_end_view(pauseless_shared *shared) {
     pthread_mutex_lock(&shared->lock);
     if (--shared->views == 0) pthread_cond_signal(&shared->viewed);
     pthread_mutex_unlock(&shared->lock);
 }
 
-/* Begins a portion, which waits for the heap. */
+/* Waits for the heap, and begins a portion. */
 static inline pauseless_portion pauseless_enter(pauseless_shared *shared) {
     pauseless_wait(shared, 0);
     return (pauseless_portion){.shared = shared, .rests = 0};
@@ -85,7 +85,7 @@ static inline pauseless_portion pauseless_enter(pauseless_shared *shared) {
 /* Ends a portion. */
 static inline void pauseless_leave(pauseless_portion *portion) { pthread_mutex_unlock(&portion->shared->lock); }
 
-/* A safepoint. What registers name may have moved then, and other threads may have changed objects. */
+/* A safepoint. Objects may have moved then, and other threads may have changed them. */
 static inline void pauseless_rest(pauseless_portion *portion) {
     if (portion->rests < portion->shared->rests) {
         portion->rests++;
@@ -96,7 +96,7 @@ static inline void pauseless_rest(pauseless_portion *portion) {
     }
 }
 
-/* Whether a part of a collection was done and another one is due; the heap is held. */
+/* Does a part of a collection if one is due; the lock is held. Returns whether it was done and another one is due. */
 static inline bool pauseless_collect_due(pauseless_shared *shared) {
     pauseless_counts counts;
     bool has_ended = true;
@@ -108,7 +108,7 @@ static inline bool pauseless_collect_due(pauseless_shared *shared) {
     return shared->failed == PAUSELESS_DONE && !has_ended;
 }
 
-/* The collector's thread. When nothing is due it sleeps for a millisecond. */
+/* Runs the collector's thread. When nothing is due it sleeps for a millisecond. */
 static inline void *pauseless_collects(void *argument) {
     pauseless_shared *shared = argument;
     for (pauseless_wait(shared, 0); !shared->is_closed; pauseless_wait(shared, 0)) {
@@ -134,7 +134,7 @@ static inline bool pauseless_start_collector(pauseless_shared *shared, const pau
     return shared->has_collector = pthread_create(&shared->collector, NULL, pauseless_collects, shared) == 0;
 }
 
-/* The heap isn't shared any more: ends the collector's thread. No thread may be in a portion. */
+/* Ends the sharing of the heap, and the collector's thread. No thread may be in a portion. */
 static inline void pauseless_unshare(pauseless_shared *shared) {
     pthread_mutex_lock(&shared->lock);
     shared->is_closed = true;

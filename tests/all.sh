@@ -1,18 +1,14 @@
 #!/bin/sh
-# The whole test command: 'rt ci', then the rooms of crates.txt and the programs of
-# README.md; the program on all scripts and faults, on scripts that are cut or
-# changed, on long scripts, and with words, files and outputs that fail; films of
-# scripts, and the states that they are made of; the
-# program and the library's calls with each of their requests for memory refused,
-# and the program with each start of a thread refused; the library for C, a Lisp,
-# an object model and a program in Rust on it; and the trying of edits itself. All
-# that comes after the proofs is run in four lanes side by side, and shown when they
-# have ended.
-# 'make test' runs it at the top of the repository.
-# The last line is 'N passed, M failed, K skipped', and the exit status is 0
-# where M is 0: K edits that must fail weren't tried, as tests/refused.txt says
-# that they were refused; and if there is no cargo, the program in Rust. What each
-# crate took stands before it.
+# The complete test command; 'make test' runs it at the top of the repository.
+# It proves all crates (proofs.sh), and then runs in four lanes: the checks of
+# documents (README.md, the tables of crates and contracts, links), the program
+# on scripts, faults, changed and long scripts, and with words, files, outputs,
+# memory and threads that fail, films, the library for C with the programs on it,
+# and the bookkeeping of mutants. The results are shown when all lanes have ended.
+# The last line is 'N passed, M failed, K skipped', and the exit status is 0 if M
+# is 0. K counts mutants that weren't tried, as tests/refused.txt records that they
+# were rejected, and the program in Rust if there is no cargo. The lines before
+# have what each crate took, and once more what failed.
 
 RT=${RT:-rt}
 INSTALL=${INSTALL:-install}
@@ -21,16 +17,22 @@ export PYTHON
 . tests/begin.sh
 skipped=0
 
+# fail TEXT: counts a failure.
+fail() {
+    echo "failed: $1" | tee -a "$kept/failures"
+    failed=$((failed + 1))
+}
+
 # count NAME OUTPUT STATUS: adds up the counts of the last line of a command's
-# output. One whose last line has none, or that ended with a failure which it
-# hasn't counted, is one failure more.
+# output, and keeps its lines on failures. One whose last line has no counts, or
+# that ended with a failure which it hasn't counted, is one failure more.
 count() {
     name=$1
     status=$3
+    grep -E '^(failed: |rt: FAILED: )' "$2" >> "$kept/failures"
     counts=$(sed -nE '$s/^([0-9]+) passed, ([0-9]+) failed(, ([0-9]+) skipped)?$/\1 \2 \4/p' "$2")
     if [ -z "$counts" ]; then
-        echo "failed: $name ended with status $status and without counts"
-        failed=$((failed + 1))
+        fail "$name ended with status $status and without counts"
         return
     fi
     # shellcheck disable=SC2086 # the counts are words
@@ -39,8 +41,7 @@ count() {
     failed=$((failed + $2))
     skipped=$((skipped + ${3:-0}))
     if [ "$status" != 0 ] && [ "$2" = 0 ]; then
-        echo "failed: $name ended with status $status"
-        failed=$((failed + 1))
+        fail "$name ended with status $status"
     fi
 }
 
@@ -71,14 +72,16 @@ proved=$kept/proved
 { sh tests/proofs.sh "$proved"; echo $? > "$kept/status"; } | tee "$kept/output"
 count 'the proofs' "$kept/output" "$(cat "$kept/status")"
 if ! "$INSTALL" -m 755 "$proved/crates/report/out/report" pauseless; then
-    echo 'failed: the program could not be built'
-    failed=$((failed + 1))
+    fail 'the program could not be built'
     rm -f pauseless
 fi
 
 (
     keep 'the README' sh tests/readme.sh
     keep 'the rooms' "$PYTHON" tests/rooms.py check
+    keep 'the contracts' "$PYTHON" tests/contracts.py check
+    keep 'the links' "$PYTHON" tests/links.py
+    keep 'the tables of measurements' "$PYTHON" bench/tables.py check
 ) &
 lanes=$!
 (
@@ -103,17 +106,18 @@ lanes="$lanes $!"
     keep 'looks of checks' sh tests/looks.sh
     keep 'the faults' sh tests/faults.sh
     keep 'the program' sh tests/program.sh
-    keep 'states and films' sh tests/film.sh "$proved/crates/states/out/states"
+    keep 'states and films' sh tests/film.sh "$proved/crates/script_states/out/script_states"
 ) &
 lanes="$lanes $!"
 # shellcheck disable=SC2086 # the lanes are words
 trap 'kill $lanes 2> /dev/null; exit 1' HUP INT TERM
 wait
 
-show 'the rooms' 'the README' 'the scripts' 'the checks' 'looks of checks' 'the faults' 'cut and changed scripts' \
-    'the program' 'states and films' 'the threads' 'threads that lack memory' 'long scripts' 'refused memory' \
-    'refused memory of calls' 'building the library for C' 'the library for C' 'the Lisp' 'the object model' 'Rust' \
-    'the trying of edits'
+show 'the rooms' 'the tables of measurements' 'the contracts' 'the links' 'the README' 'the scripts' \
+    'the checks' 'looks of checks' 'the faults' 'cut and changed scripts' 'the program' 'states and films' \
+    'the threads' 'threads that lack memory' 'long scripts' 'refused memory' 'refused memory of calls' \
+    'building the library for C' 'the library for C' 'the Lisp' 'the object model' 'Rust' 'the trying of edits'
 cat "$proved.table"
+cut -c 1-400 "$kept/failures"
 echo "$passed passed, $failed failed, $skipped skipped"
 [ "$failed" = 0 ]

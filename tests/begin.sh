@@ -1,8 +1,7 @@
-# What the tests of the program begin with; they read it by '.', at the top of
-# the repository. The program is ./pauseless, or the one that the first argument
-# names. $kept is a folder that is gone at the end. Where $in_memory is set it is on
-# a file system in memory, if there is one that programs may be run from: a file
-# that is written anew in each of many runs waits for a disk each time.
+# Sourced by the tests of the program, at the top of the repository. $program is ./pauseless, or the
+# first argument. $kept is a temporary folder. If $in_memory is set it is on a file system in
+# memory, if there is one that programs may be run from: a test that rewrites a file in each of many
+# runs would wait for the disk each time.
 
 program=${1:-./pauseless}
 passed=0

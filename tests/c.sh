@@ -1,12 +1,14 @@
 #!/bin/sh
-# Tests the library for C: that the header's codes, functions and structs are those of the code; that the programs of
-# examples/c print what their files NAME.expected have; that each function does what it should with its arguments, and
-# writes nothing if it fails (tests/c/calls.c); that a code says which number names nothing (tests/c/which.c); that
-# statistics count what was done (tests/c/statistics.c); that memory of free frames is given back (tests/c/kept.c), so
-# that the memory of a process follows what lives in its heap (tests/c/growth.c); that random calls answer what a plain
-# heap would (tests/c/random.c); and that all memory is given back, that each request for memory may be refused, and that
-# a verification looks at the heap (tests/c/memory.c). With valgrind, that no program leaks memory or reads what it hasn't
-# written. The library is ./libpauseless.a, or the one that the first argument names.
+# Tests the library for C: that the header's codes, functions and structs are those of the code; that docs/C.md shows
+# lines of examples/c/list.c; that the programs of examples/c print what their files NAME.expected have; that each
+# function does what it should with its arguments, and writes nothing if it fails (tests/c/calls.c); that a code says
+# which number names nothing (tests/c/which.c); that statistics count what was done (tests/c/statistics.c); that memory
+# of free frames is given back (tests/c/kept.c), so that the memory of a process follows what lives in its heap
+# (tests/c/growth.c); that words and bytes are copied, read and written as by memmove and memcpy (tests/c/bytes.c); that
+# random calls answer what a plain heap would (tests/c/random.c); and that all memory is given back, that each request
+# for memory may be refused, and that a verification looks at the heap (tests/c/memory.c). With valgrind, that no
+# program leaks memory or reads what it hasn't written. The library is ./libpauseless.a, or the one that the first
+# argument names.
 
 cd "$(dirname "$0")/.." || exit 1
 . tests/begin.sh
@@ -47,6 +49,15 @@ done < "$kept/declared"
 [ ! -e "$kept/missing" ]
 told 'calls.c, kept.c, views.c and statistics.c have each function of the header' $?
 
+# Each line of C under 'A first program' is one of the example.
+awk '
+    /^#/ { under = ($0 == "## A first program") }
+    /^```/ { taking = (under && $0 == "```c"); next }
+    taking
+' docs/C.md > "$kept/shown"
+[ -s "$kept/shown" ] && ! grep -v -x -F -f examples/c/list.c "$kept/shown"
+told 'docs/C.md shows lines of examples/c/list.c' $?
+
 # build SOURCE FLAGS..: a program of the same name in $kept.
 build() {
     source=$1
@@ -71,12 +82,15 @@ for source in examples/c/*.c; do
     leaves "$name"
 done
 
-# A cache in a heap that is never full: no operation is refused, with complete collections and with those in parts.
+# A cache in a heap that is never full: no operation is refused, with complete collections and with those in parts; and
+# with these the heap is never collected by one call.
 build bench/cache.c
-for words in '92 4 0' '92 23 400' '108 27 1600' '124 31 100' '124 31 1600' '248 62 400'; do
+for words in '92 4 0' '92 23 10' '92 23 1000' '108 27 10' '108 27 10000' '124 31 100' '144 36 1000' '248 62 100'; do
     # shellcheck disable=SC2086 # the words are several
     "$kept/cache" $words 20000 > "$kept/output" && grep -q ' 0$' "$kept/output"
     told "a cache with frames, free frames and a budget of $words" $?
+    [ "${words##* }" = 0 ] || [ "$(cut -d' ' -f4 "$kept/output")" = 0 ]
+    told "and no collection by one call" $?
 done
 
 # The memory of the process follows what lives in the heap. By malloc as it is in glibc, and not under valgrind.
@@ -104,9 +118,10 @@ build tests/c/which.c
 build tests/c/statistics.c
 build tests/c/views.c
 build tests/c/kept.c
+build tests/c/bytes.c
 build tests/c/random.c
 build tests/c/memory.c -Wl,--wrap=malloc -Wl,--wrap=realloc -Wl,--wrap=free
-for name in calls which statistics views kept random memory; do
+for name in calls which statistics views kept bytes random memory; do
     "$kept/$name"
     told "$name finds no difference" $?
     leaves "$name"

@@ -1,10 +1,9 @@
 #!/bin/sh
-# Runs tests of calls that take memory with each of their requests for it
-# refused in turn, one a run. Such a test has to end with the fault that the
-# call told, which is want of memory, or of writing where what is written to is
-# a list in memory; the first run in which no request is refused ends it. The
-# first argument names the folder of the crates whose tests are built: where
-# 'rt ci' built them, or the repository's own.
+# Runs tests of calls that allocate with each of their memory requests refused in turn, one a run.
+# Such a test has to end with the error that the call returned: out of memory, or a failed write if
+# the destination is a list in memory. The first run in which no request is refused is the last. The
+# first argument is the folder of the crates whose tests are built: where 'rt ci' built them, or the
+# repository's own.
 
 cd "$(dirname "$0")/.." || exit 1
 crates=${1:-crates}
@@ -24,37 +23,38 @@ told() {
 
 # Each is a crate, and a test of its own.
 for named in \
-    trials_memory:rows::a_row_of_clear_bits \
-    trials_memory:rows::rows_of_clear_bits \
-    trials_memory:rows::rows_with_an_index \
-    trials_memory:rows::copies_of_an_item \
-    trials_memory:configs::a_copy_has_the_same_values \
-    trials_memory:pages::takes_in_the_lowest_page \
-    trials_heap:heaps::the_first_fault_is_told \
-    trials_heap:protections::a_page_is_protected \
-    shortages:protections::four_pages_are_protected \
-    shortages:protections::four_pages_of_a_managed_heap \
-    shortages:emptying::pages_are_emptied \
-    shortages:emptying::a_heap_is_made \
-    shortages:emptying::a_heap_is_verified \
-    shortages:sharing::a_heap_is_shared \
-    trials_books:books::a_run_is_accepted \
-    trials_books:marks::a_drain \
-    trials_verifier:verified::the_image_of_an_object_that_moves \
-    trials_scripts:scripts::steps_of_orders \
-    trials_scripts:protections::the_report_stays \
-    trials_scripts:reports::cycles \
-    trials_scripts:wants::read_and_run \
-    trials_scripts:wants::read_and_checked \
-    shortfalls:steps::steps_of_seats \
-    shortfalls:steps::steps_of_threads \
-    shortfalls:steps::pages_by_halves \
-    shortfalls:openings::a_book_is_opened \
-    shortfalls:openings::pages_are_chosen \
-    shortfalls:lists::a_list_of_steps \
-    shortfalls:lists::a_drain_in_two_parts \
-    trials_threads:wants::hints_come_back \
-    trials_threads:wants::runs_by_threads; do
+    test_memory:rows::a_row_of_clear_bits \
+    test_memory:rows::rows_of_clear_bits \
+    test_memory:rows::rows_with_an_index \
+    test_memory:rows::copies_of_an_item \
+    test_memory:configs::a_copy_has_the_same_values \
+    test_memory:pages::takes_in_the_lowest_page \
+    test_heap:heaps::the_first_fault_is_told \
+    test_heap:protections::a_page_is_protected \
+    test_library_oom:protections::four_pages_are_protected \
+    test_library_oom:protections::four_pages_of_a_managed_heap \
+    test_library_oom:preparing::parts_go_on \
+    test_library_oom:emptying::pages_are_emptied \
+    test_library_oom:emptying::a_heap_is_made \
+    test_library_oom:emptying::a_heap_is_verified \
+    test_library_oom:sharing::a_heap_is_shared \
+    test_books:books::a_run_is_accepted \
+    test_books:marks::a_drain \
+    test_verifier:verified::the_image_of_an_object_that_moves \
+    test_scripts:scripts::steps_of_orders \
+    test_scripts:protections::the_report_stays \
+    test_scripts:reports::cycles \
+    test_scripts:wants::read_and_run \
+    test_scripts:wants::read_and_checked \
+    test_sharing_oom:steps::steps_of_seats \
+    test_sharing_oom:steps::steps_of_threads \
+    test_sharing_oom:steps::pages_by_halves \
+    test_sharing_oom:openings::a_book_is_opened \
+    test_sharing_oom:openings::pages_are_chosen \
+    test_sharing_oom:lists::a_list_of_steps \
+    test_sharing_oom:lists::a_drain_in_two_parts \
+    test_script_threads:wants::hints_come_back \
+    test_script_threads:wants::runs_by_threads; do
     crate=${named%%:*}
     test=${named#*:}
     refuse_each "$test" "$crates/$crate/out/${crate}_tests" "$test"

@@ -1,4 +1,4 @@
-# What tests of the libraries have in common; they read it by '.', after begin.sh.
+# Sourced by the tests of the libraries, after begin.sh: counts their results.
 
 # told WHAT STATUS: counts a test. One that failed is printed, and one that passed unless $quiet is set.
 told() {

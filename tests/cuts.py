@@ -1,12 +1,12 @@
 #!/usr/bin/env python3
-"""Runs a program on every beginning of each script, and on scripts of which one byte is changed: tests/cuts.py PROGRAM
+"""Runs a program on every prefix of each script, and on scripts with one byte changed: tests/cuts.py PROGRAM
 
-Each beginning of a script that has no fault ends as its lines say: where it is whole lines, with a heap line and a
-layout line and no open block, it is run, and the lines of its commands are the first ones of NAME.expected; else it is
-one fault that SCRIPT.md names, in its last line or at its end. A beginning of another script, and a script with one
-byte changed to any other, is run or is one such fault, which doesn't stand before the changed byte's line. Nothing is
-printed where there is a fault, and no run ends otherwise. The last line is 'N passed, M failed': each script that is
-cut is one test, and so are the bytes of each line that are changed. The line before says how many runs there were.
+A prefix of a correct script is run if it is complete lines with a heap line, a layout line and no open block, and the
+lines of its commands are the first ones of NAME.expected; any other has one fault of docs/SCRIPT.md, in its last line
+or at its end. A prefix of another script, and a script with one byte changed to any other, is run or has one such
+fault, not before the changed byte's line. A script with a fault prints nothing, and no run ends otherwise. The last
+line is 'N passed, M failed': each script that is cut is one test, and so are the changed bytes of each line. The line
+before has the number of runs.
 """
 
 import glob

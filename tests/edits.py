@@ -1,18 +1,21 @@
 #!/usr/bin/env python3
-"""Which must-fail edits have to be tried, and the trying of them.
+"""Which mutants (must-fail edits) have to be tried, and the trying of them.
 
-    tests/edits.py check [CRATE..]            says which crates have edits to try, and which of these can't be made;
-                                              ends with 1 where there is one
-    tests/edits.py try [--jobs N] [CRATE..]   tries the edits of these crates, or of all, and writes them down
-    tests/edits.py passed COMMIT              writes down the crates that are as they are in a commit of which the
-                                              whole test command has passed, as that tries what isn't written down
-    tests/edits.py copy FOLDER                copies the repository without the edits that needn't be tried, and
-                                              says how many these are
+    tests/edits.py check [CRATE..]            prints which crates have mutants to try, and which of these can't be
+                                              made; status 1 if there is one
+    tests/edits.py try [--jobs N] [CRATE..]   tries the mutants of these crates, or of all, and records them; of N
+                                              crates at once, by default of one: 'rt' tries several mutants of a
+                                              crate at once, as far as processors and memory allow
+    tests/edits.py passed COMMIT              records the crates that are unchanged since a commit of which the
+                                              complete test command has passed, as that tries what isn't recorded
+    tests/edits.py copy FOLDER                copies the repository without the mutants that needn't be tried, and
+                                              prints how many these are
 
-All work at the top of the repository. An edit that the prover refused isn't tried again while its crate is as it
-was: where each edit of a crate was refused, the crate has a line in tests/refused.txt, with its name, how many edits
-it has, and a fingerprint of its own files, which are those in src, specs and must-fail. A crate whose files have
-another fingerprint, or that has no line, has edits to try. What a crate below has changed is not in the fingerprint.
+All work at the top of the repository. A mutant that the prover rejected isn't tried again while its crate is
+unchanged: if all mutants of a crate were rejected, the crate has a line in tests/refused.txt, with its name, the number
+of its mutants, and a fingerprint of its own files in src, specs and must-fail. A crate with another fingerprint, or
+without a line, has mutants to try. Lines that are a comment, empty lines, and changes of lower crates are not in the
+fingerprint.
 """
 
 import argparse
@@ -30,7 +33,9 @@ from concurrent.futures import ThreadPoolExecutor, as_completed
 BOOK = "tests/refused.txt"
 HEAD = "# Crates whose edits were all refused: name, edits, fingerprint. 'make edits' writes this file.\n"
 PARTS = ("src", "specs", "must-fail")
-# A check of an edit takes 1 to 3 GB.
+# How a line begins that is a comment alone, by the ending of its file.
+COMMENTS = {".rt": b"//", ".antt": b"--"}
+# A check takes 1 to 3 GB.
 MEMORY_OF_A_LANE = 4 << 30
 RT = os.environ.get("RT", "rt")
 # Of the copy in which edits are tried: a crate that stands on all libraries, and what 'rt' said while it built them.
@@ -53,6 +58,14 @@ def files_of(root):
         paths = [os.path.relpath(f"{at}/{name}", root) for at, name in walked]
     made = re.compile(r"(^|/)out/|^target/|^(pauseless|build\.log)$")
     return sorted(path for path in paths if os.path.isfile(f"{root}/{path}") and not made.search(path))
+
+
+def code_of(path):
+    """The lines of a file that the prover reads: without those that are a comment alone, or empty."""
+    comment = COMMENTS.get(os.path.splitext(path)[1])
+    with open(path, "rb") as file:
+        lines = file.read().splitlines()
+    return b"\n".join(it for it in lines if it.strip() and not (comment and it.lstrip().startswith(comment)))
 
 
 class Crates:
@@ -81,8 +94,7 @@ class Crates:
     def fingerprint(self, name):
         found = hashlib.sha256()
         for path in self.own(name, *PARTS):
-            with open(f"{self.root}/{path}", "rb") as file:
-                text = file.read()
+            text = code_of(f"{self.root}/{path}")
             found.update(f"{path} {len(text)}\n".encode() + text)
         return found.hexdigest()
 
@@ -215,7 +227,7 @@ def try_crate(crates, name, folder):
 
 
 def lanes():
-    """How many crates are tried side by side, as processors and memory allow."""
+    """How many crates are proved side by side, as processors and memory allow."""
     with open("/proc/meminfo", encoding="utf-8") as file:
         free = 1024 * int(re.search(r"MemAvailable:\s+(\d+)", file.read())[1])
     return max(1, min(len(os.sched_getaffinity(0)), free // MEMORY_OF_A_LANE))
@@ -224,12 +236,11 @@ def lanes():
 def try_all(names, jobs):
     crates = Crates(os.getcwd())
     names = sorted(named(crates, names), key=lambda it: -len(crates.edits(it)))
-    jobs = jobs or lanes()
     if odd := misfits(crates, names):
         stop("these edits can't be made:\n" + "\n".join(odd))
     passed = failed = 0
     with tempfile.TemporaryDirectory(prefix="edits-") as folder:
-        if not build_below(crates, names, folder, jobs):
+        if not build_below(crates, names, folder, lanes()):
             subprocess.run(["tail", "-n", "40", f"{folder}/{LOG}"])
             stop("what these crates stand on isn't proved")
         copy(crates, folder, crates.files)
@@ -287,7 +298,7 @@ def main():
     commands = parser.add_subparsers(dest="command", required=True)
     commands.add_parser("check").add_argument("names", nargs="*")
     trying = commands.add_parser("try")
-    trying.add_argument("--jobs", type=int, default=0)
+    trying.add_argument("--jobs", type=int, default=1)
     trying.add_argument("names", nargs="*")
     commands.add_parser("passed").add_argument("commit")
     commands.add_parser("copy").add_argument("folder")

@@ -1,8 +1,7 @@
 #!/bin/sh
-# Tries the trying of edits, on a repository of two small crates that is made
-# here: which crates have edits to try after a change, what is told and written
-# down of edits that are refused and of one that isn't, and what a run of the
-# proofs says of them.
+# Tests the bookkeeping of mutants on a repository of two small crates that is made here: which
+# crates have mutants to try after a change, what is printed and recorded of mutants that are
+# rejected and of one that isn't, how a run of the proofs counts them, and what its time is made of.
 
 RT=${RT:-rt}
 PYTHON=${PYTHON:-python3}
@@ -94,8 +93,10 @@ changed() {
 }
 echo '# A letter more.' >> crates/high/must-fail/two_more.edit
 changed 'an edit that is changed' 'high: 1 edits to try'
-echo '// A letter more.' >> crates/low/src/lib.rt
+echo 'const MORE: u32 = 1;' >> crates/low/src/lib.rt
 changed 'a body that is changed' 'low: 1 edits to try'
+printf '\n    // A letter more.\n' >> crates/low/src/lib.rt
+changed 'a comment alone is changed'
 mkdir crates/high/specs && echo '// Nothing.' > crates/high/specs/Lib.antt
 changed 'definitions that are changed' 'high: 1 edits to try'
 mkdir crates/high/proofs && echo '// Nothing.' > crates/high/proofs/Lib.antt
@@ -155,6 +156,12 @@ is 'a run of the proofs tries the edits that are left' 1 \
 awk '{ print $1 } END { print }' "$kept/proved.table" | sed -E 's/^(high|low)$/a crate/' | uniq > "$kept/got"
 status=0
 is 'a table of what each crate took' 0 seconds 'a crate' all edits: 'edits: 2 tried, 1 stand by tests/refused.txt'
+
+printf 'seconds proof tests edits\nlow 10 1 0\nhigh 20 2 3\nall 30 3 3\n' > "$kept/table"
+"$PYTHON" "$tools/chain.py" "$kept/table" > "$kept/got" 2>&1
+status=$?
+is 'what the time is made of' 0 '36 seconds: proofs 30, tests 3, mutants 3' \
+    'the longest chain of proofs: 30: low 10, high 20' 'on 2 processors: 35' 'on 4 processors: 35'
 
 echo "$passed passed, $failed failed"
 [ "$failed" = 0 ]

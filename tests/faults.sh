@@ -1,9 +1,8 @@
 #!/bin/sh
-# Runs the program on each script of tests/faults.txt, in its modes 'run' and
-# 'check', and on each of tests/faults_of_threads.txt in its mode 'threads'. Where
-# a fault is due, it has to stand alone on standard error, with status 2 and no
-# output; else the status is 0 and standard error empty. The program is
-# ./pauseless, or the one that the first argument names.
+# Runs the program on each script of tests/faults.txt, in the modes 'run' and 'check', and on each
+# of tests/faults_of_threads.txt in the mode 'threads'. If a fault is expected, standard error has
+# this line only, the status is 2 and nothing is printed; otherwise the status is 0 and standard
+# error is empty. The program is ./pauseless, or the first argument.
 
 cd "$(dirname "$0")/.." || exit 1
 in_memory=1

@@ -1,13 +1,11 @@
 #!/bin/sh
-# Runs the program 'states' on scripts, and compares what it writes: on
-# tests/films/ with states and counts that were looked over by hand, on each
-# script of examples/ and of tests/scripts/ that has no fault with the states
-# of a model that has nothing in common with it, and with what ./pauseless
-# prints. Then a film and a plot are made of each. The first argument names
-# the program, which is crates/states/out/states where it isn't there.
+# Runs the program 'script_states' on scripts and compares its output: on tests/films/ with states and
+# counts that were checked by hand, and on each correct script of examples/ and tests/scripts/ with
+# the states of an independent model and with the output of ./pauseless. Then a film and a plot of
+# each are made. The first argument is the program, by default crates/script_states/out/script_states.
 
 cd "$(dirname "$0")/.." || exit 1
-states=${1:-crates/states/out/states}
+states=${1:-crates/script_states/out/script_states}
 set --
 . tests/begin.sh
 

@@ -1,6 +1,6 @@
 #!/usr/bin/env python3
-"""Compares the states that the program 'states' writes with those of the model in heap_model.py, which has nothing in
-common with the program, and makes films and plots of them:
+"""Compares the states that the program 'script_states' writes with those of the model in heap_model.py, which has
+nothing in common with the program, and makes films and plots of them:
 
     python3 tests/filmed.py STATES PAUSELESS FOLDER SCRIPT..
 

@@ -1,10 +1,10 @@
 #!/bin/sh
-# Runs the program on scripts that nobody wrote, for FUZZ_SECONDS seconds (600, where it isn't set): half of the time
-# by AFL++, where 'afl-fuzz' is there, on the program as it was built, without instruments; else, and in the other
-# half, by tests/fuzz.py. AFL++ looks for a run that a signal ends, that takes 20 seconds, or that ends with status
-# 1, which a heap fault has: a script of that kind is kept in fuzzed/. It begins with the scripts of examples/ and
-# tests/, and with their words. Without Python 3 this test fails. The program is ./pauseless, or the one that the
-# first argument names.
+# Runs the program on random scripts for FUZZ_SECONDS seconds, 600 by default: half of the time by
+# AFL++, if 'afl-fuzz' is installed, on the uninstrumented program; otherwise, and in the other
+# half, by tests/fuzz.py. AFL++ looks for a run that a signal ends, that takes 20 seconds, or that
+# exits with status 1, as for a fault of the heap, and keeps such scripts in fuzzed/. It starts from
+# the scripts of examples/ and tests/ and their words. Without Python 3 this test fails. The program
+# is ./pauseless, or the first argument.
 
 cd "$(dirname "$0")/.." || exit 1
 . tests/begin.sh

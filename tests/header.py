@@ -17,11 +17,14 @@ HEADER = "include/pauseless.h"
 CODE = ["crates/foreign/src/*.rt", "crates/managed/src/batches.rt"]
 RUST = "examples/rust/src/pauseless/calls.rs"
 
-# What C calls how many elements of these types a list has: text and data words; others have a count.
+# What C calls how many elements of these types a list has: text, bytes and data words; others have a count.
 SIZES = {"u8": "size", "u64": "size"}
 
+# The parameter that is bytes of any type in C, and no text.
+BYTES = "bytes"
+
 # The types of the code, as C has them; and a name that C can't have.
-TYPES = {"u16": "uint16_t", "u32": "uint32_t", "u64": "uint64_t", "bool": "bool", "u8": "char",
+TYPES = {"u16": "uint16_t", "u32": "uint32_t", "u64": "uint64_t", "usize": "size_t", "bool": "bool", "u8": "char",
          "Handle": "pauseless_heap", "SizesOfC": "pauseless_sizes", "LayoutOfC": "pauseless_layout",
          "PolicyOfC": "pauseless_policy", "ObjectOfC": "pauseless_object", "CollectedOfC": "pauseless_collected",
          "CountsOfC": "pauseless_counts",
@@ -54,7 +57,8 @@ def of_code(name, kind):
     slice_of = re.fullmatch(r"&(mut )?\[(\w+)\]", kind)
     if slice_of:
         const = "" if slice_of[1] else "const "
-        return [(const + TYPES[slice_of[2]] + "*", name), ("size_t", SIZES.get(slice_of[2], "count"))]
+        element = "void" if name == BYTES else TYPES[slice_of[2]]
+        return [(const + element + "*", name), ("size_t", SIZES.get(slice_of[2], "count"))]
     pointer = re.fullmatch(r"&(mut )?(\w+)", kind)
     if pointer:
         return [(("" if pointer[1] else "const ") + TYPES[pointer[2]] + "*", name)]

@@ -1,4 +1,4 @@
-"""A model of the heap, by the rules in docs/HEAP.md and docs/SCRIPT.md, that has
+"""A model of the heap, by the rules in docs/STEPS.md and docs/SCRIPT.md, that has
 nothing in common with the program: objects are Python objects here, a word is an
 object with its NMT bit and a place of it, and there are no rows, no memory and no
 copies. moving_model.py has the pages.

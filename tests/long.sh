@@ -1,8 +1,7 @@
 #!/bin/sh
-# Runs the program on the long scripts that tests/long.py writes, and compares
-# what it prints with what the model there worked out. Without Python 3 this
-# test fails. The program is ./pauseless, or the one that the first argument
-# names.
+# Runs the program on the long scripts that tests/long.py writes, and compares its output with that
+# of the model there. Without Python 3 this test fails. The program is ./pauseless, or the first
+# argument.
 
 cd "$(dirname "$0")/.." || exit 1
 . tests/begin.sh

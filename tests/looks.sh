@@ -1,10 +1,9 @@
 #!/bin/sh
-# That 'check' looks at the heap each time that it says so: a verification asks
-# for memory, so 'check' makes so many more requests than 'run'. One of the
-# script's first heap, which has no page with memory yet, asks least often. A
-# verification that takes the image and doesn't look at it can be proved, and
-# fails here with each script. The program is ./pauseless, or the one that the
-# first argument names.
+# Tests that 'check' really verifies the heap as often as it reports: each verification allocates,
+# so 'check' makes correspondingly more memory requests than 'run'; a verification of the first
+# heap, which has no page with memory, makes the fewest. A verification that takes the image and
+# doesn't look at it could be proved, and fails here with each script. The program is ./pauseless,
+# or the first argument.
 
 cd "$(dirname "$0")/.." || exit 1
 . tests/begin.sh

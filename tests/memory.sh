@@ -1,12 +1,10 @@
 #!/bin/sh
-# Runs the program on some scripts with each of its requests for memory
-# refused in turn, one a run. A run has to end with status 3 and the one line
-# 'pauseless: out of memory', and to print exactly the lines before the step, or
-# the part of the report, that made the request. How many these are is traced in
-# a run without a refusal: tests/refuse.c counts, at each request, the lines that
-# the program has put into its output buffer. The first run in which no request
-# is refused ends the test of a script. The program is ./pauseless, or the one
-# that the first argument names.
+# Runs the program on some scripts with each of its memory requests refused in turn, one a run. A
+# run has to end with status 3 and the one line 'pauseless: out of memory', and to print exactly the
+# lines before the step, or the part of the report, that made the request. The number of these lines
+# is traced in a run without a refusal: tests/refuse.c counts, at each request, the lines that the
+# program has put into its output buffer. The first run in which no request is refused is the last
+# of a script. The program is ./pauseless, or the first argument.
 
 cd "$(dirname "$0")/.." || exit 1
 in_memory=1

@@ -1,7 +1,7 @@
 """The pages of the model in heap_model.py: their states and frames, the objects
-on them, and how these move, by the rules in docs/HEAP.md. An object has its
-references and data once, wherever it is; a reference names the object, and has
-beside it the place where the object was.
+on them, and how these move, by the rules in docs/ALGORITHM.md and docs/STEPS.md.
+An object has its references and data once, wherever it is; a reference names the
+object, and has with it the place where the object was.
 """
 
 from collections import Counter

@@ -1,10 +1,11 @@
 #!/bin/sh
-# The object model of examples/objects on the library for C: the scopes and size classes of examples/c, and each function
-# of the model, compared with arrays in C (tests/c/scopes.c, tests/c/sizes.c, tests/c/object_model.c), and what size
-# classes waste with the table of docs/RUNTIMES.md; the model's faults, each of which ends a program with a message; and
-# its program, which prints the same in 64 MiB and in the smallest heaps that are enough, verified at intervals and at
-# the end; with one frame less, and if the system refuses memory, it ends with a message. With valgrind, that no program
-# leaks memory or reads what it has not written. The library is ./libpauseless.a, or what the first argument names.
+# The object model of examples/objects on the library for C: the scopes and size classes of examples/c, and each
+# function of the model, compared with arrays in C (tests/c/scopes.c, tests/c/sizes.c, tests/c/object_model.c), and what
+# size classes waste with the table of docs/RUNTIMES.md, whose lines of C are those of the examples; the model's faults,
+# each of which ends a program with a message; and its program, which prints the same in 64 MiB and in the smallest
+# heaps that are enough, verified at intervals and at the end; with one frame less, and if the system refuses memory, it
+# ends with a message. With valgrind, that no program leaks memory or reads what it has not written. The library is
+# ./libpauseless.a, or what the first argument names.
 
 cd "$(dirname "$0")/.." || exit 1
 quiet=1
@@ -54,6 +55,15 @@ tries() {
     prints -w "$1" -f "$2" -v 20000
     says 'there are too few' "$objects" -w "$1" -f $(($2 - 1))
 }
+
+# Each line of C that docs/RUNTIMES.md shows is one of the examples.
+awk '
+    /^```/ { taking = ($0 == "```c"); next }
+    taking
+' docs/RUNTIMES.md > "$kept/shown"
+cat examples/objects/*.c examples/lisp/*.c > "$kept/lines"
+[ -s "$kept/shown" ] && ! grep -v -x -F -f "$kept/lines" "$kept/shown"
+told 'docs/RUNTIMES.md shows lines of the examples in C' $?
 
 build scopes tests/c/scopes.c
 "$kept/scopes"

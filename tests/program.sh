@@ -1,8 +1,8 @@
 #!/bin/sh
-# Runs the program with words, files and outputs of which no script tells: each
-# run has to end with its exit status, its one line on standard error, or none,
-# and all of the output or nothing. The program is ./pauseless, or the one that
-# the first argument names.
+# Runs the program with words, files and outputs that no script covers: each run
+# has to end with its exit status, with its one line on standard error, or none,
+# and with all of the output or nothing. Then it runs the examples of
+# docs/SCRIPT.md. The program is ./pauseless, or the first argument.
 
 cd "$(dirname "$0")/.." || exit 1
 . tests/begin.sh
@@ -181,6 +181,14 @@ ends 'a fault and full errors' 2 '' "$kept/nothing"
 "$program" run "$script" > "$kept/output" 2>&-
 status=$?
 ends 'closed errors' 0 '' examples/first.expected
+
+# The examples of docs/SCRIPT.md.
+"${PYTHON:-python3}" tests/page.py "$program" > "$kept/page"
+sed '$d' "$kept/page"
+examples=$(sed -n '$s/^\([0-9]*\) passed, [0-9]* failed$/\1/p' "$kept/page")
+differ=$(sed -n '$s/^[0-9]* passed, \([0-9]*\) failed$/\1/p' "$kept/page")
+passed=$((passed + ${examples:-0}))
+failed=$((failed + ${differ:-1}))
 
 echo "$passed passed, $failed failed"
 [ "$failed" = 0 ]

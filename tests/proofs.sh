@@ -1,10 +1,9 @@
 #!/bin/sh
-# Proves all crates and their tests from nothing, and tries the edits that have
-# to be tried, by one 'rt ci' in a copy of the repository: tests/proofs.sh COPY,
-# at the top of the repository. COPY is a folder that isn't there yet; what was
-# proved and built stays in it. The last line is 'N passed, M failed, K skipped':
-# K edits weren't tried, as they stand by tests/refused.txt. COPY.table tells what
-# each crate took and, in its last line, how many edits were tried.
+# Proves all crates and their tests from nothing, and tries the mutants that have to be tried, by
+# one 'rt ci' in a copy of the repository: tests/proofs.sh COPY, at the top of the repository. COPY
+# is a folder that doesn't exist yet; what was proved and built stays in it. The last line is 'N
+# passed, M failed, K skipped': K mutants weren't tried, as tests/refused.txt records them.
+# COPY.table has what each crate took and, in its last line, how many mutants were tried.
 
 RT=${RT:-rt}
 PYTHON=${PYTHON:-python3}

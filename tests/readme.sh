@@ -1,15 +1,12 @@
 #!/bin/sh
-# Does what README.md and docs/LIBRARY.md say, in a copy of the repository.
-# Programs: all blocks of Rust under one heading, in order, are a program, and
-# what it prints is the block of text there; of a heading without one it is
-# nothing. Each program is a crate of the copy, with the line that
-# docs/LIBRARY.md has for crates.txt, and 'rt try' runs it, which proves nothing.
-# Commands: each indented line of README.md that begins with 'make', 'cc' or './'
-# is run, and its result is looked at; a line that this file doesn't know is a
-# failure. What is built without a proof is built anew if the sources of the kept
-# build are others. The commands that prove run with a stand-in for 'rt', which
-# hands out what was built so. The first script, and what it prints, are compared
-# with examples/; and tests/figures.py looks at the figures of README.md.
+# Runs what README.md and docs/LIBRARY.md show, in a copy of the repository. Programs: all blocks of
+# Rust under one heading, in order, are a program, whose output is the block of text there, if any.
+# Each program is a crate of the copy, with the line that docs/LIBRARY.md has for crates.txt, and
+# 'rt try' runs it, which proves nothing. Some with two arguments swapped must not compile. Commands: each indented line of README.md that begins with
+# 'make', 'cc' or './' is run and its result tested; a line that this file doesn't know is a
+# failure. Unproved builds are made again if the sources have changed. Commands that prove run with
+# a stand-in for 'rt', which uses these builds. The first script and its output are compared with
+# examples/; tests/figures.py tests the figures of README.md.
 
 cd "$(dirname "$0")/.." || exit 1
 . tests/begin.sh
@@ -114,7 +111,31 @@ run_programs() {
     done < "$kept/headings"
 }
 
-run_programs docs/LIBRARY.md 4
+run_programs docs/LIBRARY.md 3
+
+# is_mistyped WHAT HEADING FROM TO: a program of docs/LIBRARY.md with TO in place of FROM doesn't compile, by its types.
+is_mistyped() {
+    blocks docs/LIBRARY.md "$2" rust > "$kept/expected"
+    sed "s/$3/$4/" "$kept/expected" > "$copy/crates/mine/src/main.rt"
+    if cmp -s "$kept/expected" "$copy/crates/mine/src/main.rt"; then
+        fails "$1: the program has no '$3'"
+    elif (cd "$copy/crates/mine" && "$RT" try) > "$kept/output" 2>&1 < /dev/null; then
+        fails "$1: the program is run"
+    elif grep -q 'error\[mismatched-types\]' "$kept/output"; then
+        passes "$1"
+    else
+        fails "$1:"
+        sed 's/^/  /' "$kept/output"
+    fi
+}
+
+held='## A program that holds a heap'
+shared='## Threads that hold one heap'
+is_mistyped 'a register and a field, swapped' "$held" 'store(ME, NODE, NEXT, ROOT)' 'store(ME, NODE, ROOT, NEXT)'
+is_mistyped 'a thread and a register, swapped' "$held" 'copy_register(ME, HERE, ROOT)' 'copy_register(HERE, ME, ROOT)'
+is_mistyped 'a register and a layout, swapped' "$held" 'ME, NODE, NODES' 'ME, NODES, NODE'
+is_mistyped 'a data word in place of a field' "$held" 'read(ME, HERE, HERE, NEXT)' 'read(ME, HERE, HERE, KEY)'
+is_mistyped 'a global and a register, swapped' "$shared" 'read_global(COUNTER, ROOT)' 'read_global(ROOT, COUNTER)'
 rm -r "$copy/crates/mine"
 cp "$kept/crates.txt" "$copy/crates.txt"
 

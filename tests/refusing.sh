@@ -1,7 +1,6 @@
-# What the tests of refused memory begin with; they read it by '.', after
-# tests/begin.sh, and say by 'whole' and 'told' how a run has to end: $name is
-# what runs, $number the number that was refused, $status its exit status,
-# $kept/output and $kept/errors what it wrote.
+# Sourced by the tests of refused memory, after tests/begin.sh. They define by 'whole' and 'told'
+# how a run has to end: $name is what runs, $number the number of the refused request, $status its
+# exit status, $kept/output and $kept/errors its output.
 
 cc -shared -fPIC -O1 -o "$kept/refuse.so" tests/refuse.c -ldl -lpthread || exit 1
 

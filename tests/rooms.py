@@ -1,8 +1,8 @@
 #!/usr/bin/env python3
-"""Draws the rooms of crates.txt and writes the tables of crates: python3 tests/rooms.py draw|check.
+"""Draws the module groups of crates.txt and writes the tables of crates: python3 tests/rooms.py draw|check.
 
-A line '# NAME: WORDS' of crates.txt begins a room, and the crates after it are in that room; those after another
-heading, as a user's own, are in none. 'draw' writes docs/rooms.svg, and in docs/ARCHITECTURE.md the table below each
+A line '# NAME: WORDS' of crates.txt begins a group, a room, of the crates after it; those after another heading, as a
+user's own, are in none. 'draw' writes docs/rooms.svg, and in docs/ARCHITECTURE.md the table below each
 heading '### NAME': a row for each crate, with the first sentence of its root file. 'check' reports whether both are
 what would be written, and whether each crate depends on crates above it alone; its last line is 'N passed, M failed'.
 """
@@ -12,19 +12,23 @@ import os
 import re
 import sys
 
+from tried import report
+
 PICTURE = "docs/rooms.svg"
 PAGE = "docs/ARCHITECTURE.md"
 
-# Where a room stands in the picture: its left edge, its row from the top, and its width, of 12.
+# The place of a room in the picture: its left edge, its row from the top, and its width, of 12.
 PLACES = {
-    "Tests and benches": (0, 0, 12),
-    "Scripts": (0, 1, 7), "What programs hold": (7, 1, 5),
+    "Tests": (0, 0, 8), "Benches": (8, 0, 4),
+    "Scripts": (0, 1, 7), "Library": (7, 1, 5),
     "Sharing": (0, 2, 6), "Verifier": (6, 2, 6),
     "Heap and steps": (0, 3, 12),
     "Words and pages": (0, 4, 7), "Theory": (7, 4, 5),
     "Definitions": (0, 5, 12),
 }
-COLUMN, ROW, GAP, MARGIN = 75, 134, 24, 8
+COLUMN, GAP, MARGIN = 75, 24, 8
+# A room's height without the names of its crates, and that of a line of names.
+HEAD, LINE = 62, 17
 STYLE = """
   text { font-family: sans-serif; fill: #1b2733; }
   .name { font-size: 17px; font-weight: bold; }
@@ -36,7 +40,7 @@ STYLE = """
 
 
 def rooms():
-    """The rooms in order: the words of each, and its crates with what they stand on."""
+    """The rooms in order: the words of each, and its crates with what they depend on."""
     found, room = {}, None
     with open("crates.txt", encoding="utf-8") as lines:
         for line in lines:
@@ -57,12 +61,12 @@ def room_of(found):
 
 
 def is_near(upper, lower):
-    """Whether two rooms stand in one row of the picture, or in rows next to each other."""
+    """Whether two rooms are in one row of the picture, or in rows next to each other."""
     return PLACES[lower][1] - PLACES[upper][1] <= 1
 
 
 def below(found):
-    """The rooms on which each room stands. One that is far from it is left out, where another of them stands on it."""
+    """The rooms that each room depends on. One that is far from it is left out if another of them depends on it."""
     of = room_of(found)
     direct = {room: {of[it] for on in crates.values() for it in on if it in of} - {room}
               for room, (_, crates) in found.items()}
@@ -71,12 +75,6 @@ def below(found):
         every[room] = set().union(direct[room], *(every[it] for it in direct[room]))
     return {room: [it for it in found if it in direct[room]
                    and (is_near(room, it) or not any(it in every[other] for other in direct[room]))] for room in found}
-
-
-def box(room):
-    """Left, top, width and height of a room's box."""
-    left, row, width = PLACES[room]
-    return (MARGIN + left * COLUMN + GAP // 2, MARGIN + row * ROW, width * COLUMN - GAP, ROW - GAP)
 
 
 def rows_of(crates, width):
@@ -89,20 +87,36 @@ def rows_of(crates, width):
     return ["  ".join(line) for line in lines]
 
 
-def drawn_room(room, words, crates):
+def heights(found):
+    """The height of each row of the picture: that of the room in it which has the most lines of names."""
+    tallest = {}
+    for room, (_, crates) in found.items():
+        _, row, width = PLACES[room]
+        lines = len(rows_of(crates, width * COLUMN - GAP))
+        tallest[row] = max(tallest.get(row, 0), HEAD + lines * LINE)
+    return [tallest[row] for row in sorted(tallest)]
+
+
+def box(room, tall):
+    """Left, top, width and height of a room's box, by the heights of the rows."""
+    left, row, width = PLACES[room]
+    return (MARGIN + left * COLUMN + GAP // 2, MARGIN + sum(tall[:row]) + row * GAP, width * COLUMN - GAP, tall[row])
+
+
+def drawn_room(room, words, crates, tall):
     """The box of a room, with its name and its crates."""
-    left, top, width, height = box(room)
+    left, top, width, height = box(room, tall)
     yield f'<rect class="room" x="{left}" y="{top}" width="{width}" height="{height}" rx="8"/>'
     yield f'<text class="name" x="{left + 12}" y="{top + 24}">{room}</text>'
     yield f'<text class="words" x="{left + 12}" y="{top + 42}">{words}</text>'
     for number, line in enumerate(rows_of(crates, width)):
-        yield f'<text class="crate" x="{left + 12}" y="{top + 62 + 17 * number}" xml:space="preserve">{line}</text>'
+        yield f'<text class="crate" x="{left + 12}" y="{top + HEAD + LINE * number}" xml:space="preserve">{line}</text>'
 
 
-def drawn_arrow(upper, lower):
-    """The arrow from a room to one on which it stands: down, or to the side where both are in one row."""
-    left, top, width, height = box(upper)
-    to_left, to_top, to_width, _ = box(lower)
+def drawn_arrow(upper, lower, tall):
+    """The arrow from a room to one that it depends on: down, or to the side if both are in one row."""
+    left, top, width, height = box(upper, tall)
+    to_left, to_top, to_width, _ = box(lower, tall)
     if top == to_top:
         y = top + height // 2
         ends = (left, y, to_left + to_width + 2, y) if to_left < left else (left + width, y, to_left - 2, y)
@@ -114,27 +128,28 @@ def drawn_arrow(upper, lower):
 
 def picture(found):
     """The picture, as text."""
+    tall = heights(found)
     width = 2 * MARGIN + 12 * COLUMN
-    height = 2 * MARGIN + 6 * ROW - GAP
+    height = 2 * MARGIN + sum(tall) + (len(tall) - 1) * GAP
     parts = [f'<svg xmlns="http://www.w3.org/2000/svg" viewBox="0 0 {width} {height}" role="img">',
-             "<title>The rooms of the code: an arrow goes to what a room stands on</title>",
+             "<title>The module groups: an arrow goes to a group that this one depends on</title>",
              f"<style>{STYLE}</style>",
              '<defs><marker id="head" viewBox="0 0 8 8" refX="7" refY="4" markerWidth="7" markerHeight="7" '
              'orient="auto"><path d="M0,0 L8,4 L0,8 z" fill="#4a7ba6"/></marker></defs>',
              f'<rect width="{width}" height="{height}" fill="#ffffff"/>']
     for upper, rooms_below in below(found).items():
-        parts += [drawn_arrow(upper, lower) for lower in rooms_below]
+        parts += [drawn_arrow(upper, lower, tall) for lower in rooms_below]
     for room, (words, crates) in found.items():
-        parts += drawn_room(room, words, crates)
+        parts += drawn_room(room, words, crates, tall)
     return "\n".join(parts) + "\n</svg>\n"
 
 
 def order_faults(found):
-    """The crates that stand on one which isn't above them."""
+    """The crates that depend on one which isn't above them."""
     above, every = set(), room_of(found)
     for _, crates in found.values():
         for crate, on in crates.items():
-            yield from (f"{crate} stands on {it}" for it in on if it in every and it not in above)
+            yield from (f"{crate} depends on {it}" for it in on if it in every and it not in above)
             above.add(crate)
 
 
@@ -176,11 +191,7 @@ def check(found):
         f"{PAGE} has a heading for each room": all(f"\n### {room}\n" in read(PAGE) for room in found),
         f"{PAGE} has the tables that are written": read(PAGE) == page_of(found, read(PAGE)),
     }
-    for what, is_so in tried.items():
-        print(f"{'passed' if is_so else 'failed'}: {what}")
-    passed = sum(tried.values())
-    print(f"{passed} passed, {len(tried) - passed} failed")
-    return passed == len(tried)
+    return report(tried)
 
 
 def main():

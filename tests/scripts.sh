@@ -1,9 +1,8 @@
 #!/bin/sh
-# Runs the program on each script of examples/ and of tests/scripts/, and
-# compares what it does: standard output with NAME.expected, standard error with
-# NAME.error and the exit status with NAME.status. Where NAME.error or NAME.status isn't there,
-# standard error is to be empty and the status 0. The program is ./pauseless,
-# or the one that the first argument names.
+# Runs the program on each script of examples/ and tests/scripts/, and compares standard output with
+# NAME.expected, standard error with NAME.error and the exit status with NAME.status; without these
+# files, standard error has to be empty and the status 0. The program is ./pauseless, or the first
+# argument.
 
 cd "$(dirname "$0")/.." || exit 1
 . tests/begin.sh

@@ -1,11 +1,10 @@
 #!/usr/bin/env python3
-"""Tells which functions of a crate a check spent its time on: tests/slowest.py FOLDER [COUNT]
+"""Prints the functions that took a check of a crate the most time: tests/slowest.py FOLDER [COUNT]
 
-FOLDER has what one check from nothing has kept: crates/NAME/out/incremental, once 'rm -rf' has emptied it and
-'rt check' has filled it again. A check writes a file for each part of each function's proof, one behind another; so
-the time between two files is that of the later one. The seconds of each function are summed, and the dearest COUNT
-are told, 30 where it isn't said. They are those of a clock, so other work on the machine counts too, and of what copies
-of the prover did side by side each file shows only its part.
+FOLDER is crates/NAME/out/incremental after 'rm -rf' of it and a new 'rt check'. A check writes a file for each part of
+each function's proof, one after another, so the time between two files is that of the later one. The seconds of each
+function are summed, and the COUNT largest are printed, 30 by default. They are wall-clock times: other work on the
+machine counts too, and of parallel provers each file has only its part.
 """
 
 import os

@@ -1,10 +1,9 @@
 #!/bin/sh
-# Runs scripts in the mode 'threads' with each of their requests for memory
-# refused in turn, one a run, and then with each start of a thread. A run has to
-# end: once all threads that were started have ended, with status 3, nothing
-# printed, and the one line 'pauseless: out of memory'; or as if nothing were
-# refused, where that was a thread that was to copy a part of a page.
-# The program is ./pauseless, or the one that the first argument names.
+# Runs scripts in the mode 'threads' with each of their memory requests refused in turn, one a run,
+# and then with each start of a thread refused. When all threads that were started have ended, a run
+# has to end with status 3, nothing printed, and the one line 'pauseless: out of memory'; or, if the
+# thread was one that copies a part of a page, as if nothing had been refused. The program is
+# ./pauseless, or the first argument.
 
 cd "$(dirname "$0")/.." || exit 1
 in_memory=1

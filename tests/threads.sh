@@ -1,9 +1,8 @@
 #!/bin/sh
-# Runs the program in its mode 'threads' on each script of examples/threads/ and
-# of tests/threads/: it has to print NAME.expected, whoever is first, as often as
-# NAME.runs says, else once. Standard error and the exit status are as
-# tests/scripts.sh has them. A run that doesn't end within a minute fails. The
-# program is ./pauseless, or the one that the first argument names.
+# Runs the program in the mode 'threads' on each script of examples/threads/ and tests/threads/: it
+# has to print NAME.expected in every schedule, as often as NAME.runs has it, by default once.
+# Standard error and the exit status are as in tests/scripts.sh. A run that doesn't end within a
+# minute fails. The program is ./pauseless, or the first argument.
 
 cd "$(dirname "$0")/.." || exit 1
 in_memory=1

@@ -1,4 +1,5 @@
 /* The memory of the Lisp on the heap of this repository: all its calls of the library. */
+#include "../c/scopes.h"
 #include "lisp.h"
 
 #include <pauseless_shared.h>
@@ -8,14 +9,16 @@
 static pauseless_heap heap = PAUSELESS_NONE;
 static pauseless_policy policy;
 static uint64_t made, check;
-_Thread_local uint64_t immediates[REGISTERS];
+_Thread_local uint64_t words[REGISTERS];
+uint64_t global_words[GLOBALS];
+static _Thread_local struct handles handles;
 static _Thread_local uint32_t me; /* the number of this thread; that of the first one is 0 */
 
 /* Until the first thread is started the heap isn't shared, and the one thread runs without a portion or a lock. From
- * one rest to the next there are some hundred calls of the library. */
+ * one rest to the next there are some five calls of the library. */
 static pauseless_shared shared;
 static _Thread_local pauseless_portion portion;
-enum { RESTS = 10, BUDGET = 1000 }; /* rests of a portion; objects that a part of a collection scans */
+enum { RESTS = 200, BUDGET = 1000 }; /* rests of a portion; objects that a part of a collection scans */
 
 /* The threads that were started, by their numbers. */
 static struct seat {
@@ -29,121 +32,123 @@ static void must(pauseless_code code) {
     if (code) fail(pauseless_text(code));
 }
 
-/* A kind is the layout of one number less: null has none. */
+/* An object has a reference and a data word for each field. Its layout is the number of its fields, less one. */
 void memory_open(const struct memory_options *options) {
     pauseless_sizes sizes;
-    pauseless_layout layouts[KINDS - 1];
-    for (int i = 1; i < KINDS; i++) layouts[i - 1] = (pauseless_layout){shapes[i].references, shapes[i].data};
+    pauseless_layout layouts[CHUNK_SIZE];
+    for (uint16_t i = 0; i < CHUNK_SIZE; i++) layouts[i] = (pauseless_layout){i + 1, i + 1};
     pauseless_usual(options->words, options->frames, &sizes);
-    sizes.threads = sizes.globals = threads = options->threads;
-    must(pauseless_new(&heap, &sizes, layouts, KINDS - 1));
+    sizes.threads = threads = options->threads;
+    sizes.registers = REGISTERS;
+    sizes.globals = GLOBALS;
+    must(pauseless_new(&heap, &sizes, layouts, CHUNK_SIZE));
     policy = (pauseless_policy){
         .words = options->words, .free = options->frames / 8 > 0 ? options->frames / 8 : 1, .percent = 75,
         .budget = options->budget};
     check = options->check;
+    handles_open(&handles, &heap, me, FIRST_HANDLE, HANDLES, fail);
 }
 
 /* All threads that were started have been joined. */
-void memory_close(bool tells_what_it_did) {
+void memory_close(bool prints_what_it_did) {
     pauseless_counts counts;
+    pauseless_statistics seen;
     if (portion.shared) {
         pauseless_leave(&portion);
         pauseless_unshare(&shared);
         must(shared.failed);
     }
     must(pauseless_count(&heap, &counts));
+    must(pauseless_get_statistics(&heap, &seen));
     if (check) must(pauseless_verify(&heap));
-    if (tells_what_it_did)
-        fprintf(stderr, "%llu objects, %llu collections between portions, %llu bytes for objects\n",
-                (unsigned long long)counts.births, (unsigned long long)shared.collections,
-                8ULL * counts.words * counts.frames);
+    if (prints_what_it_did)
+        fprintf(stderr, "%llu objects, %llu collections, %llu collections between portions, %llu bytes for objects\n",
+                (unsigned long long)seen.births, (unsigned long long)(seen.by_policy + seen.by_room + seen.by_parts),
+                (unsigned long long)shared.collections, 8ULL * counts.words * counts.frames);
     pauseless_free(&heap);
 }
-enum kind memory_kind(unsigned object) {
-    pauseless_object seen;
-    if (immediates[object]) return NUMBER;
-    pauseless_code code = pauseless_look(&heap, me, object, &seen);
-    if (code == PAUSELESS_NULL) return NIL;
-    must(code);
-    return (enum kind)(seen.layout + 1);
-}
-void memory_make(unsigned target, enum kind kind, const uint32_t *sources, unsigned count, const uint64_t *data,
-                 unsigned size) {
-    must(pauseless_make_with(&heap, &policy, me, target, kind - 1, sources, count, data, size));
-    immediates[target] = EMPTY;
+
+/* The sources of references end with the last object; before that, what is no object is null. A new object that
+ * is made in the register of a source would name itself there. */
+void memory_make(unsigned target, uint64_t word, const uint32_t *sources, unsigned size) {
+    uint32_t references[CHUNK_SIZE];
+    uint64_t data[CHUNK_SIZE];
+    unsigned i = 0, count = 0, place = target;
+    do {
+        data[i] = words[sources[i]];
+        references[i] = has_object(data[i]) ? sources[i] : NOTHING;
+        if (has_object(data[i])) count = i + 1;
+        if (references[i] == target) place = SPARE;
+    } while (++i < size);
+    must(pauseless_make_with(&heap, &policy, me, place, size - 1, references, count, data, size));
+    if (place != target) {
+        must(pauseless_copy(&heap, me, target, place));
+        must(pauseless_clear(&heap, me, place));
+    }
+    words[target] = word;
     if (check && ++made % check == 0) must(pauseless_verify(&heap));
 }
+
+/* The word tells whether there is a reference to load. */
 void memory_get(unsigned target, unsigned object, unsigned field) {
-    must(pauseless_load(&heap, me, target, object, field));
-    immediates[target] = EMPTY;
+    uint64_t word;
+    must(pauseless_get(&heap, me, object, field, &word));
+    if (has_object(word)) {
+        must(pauseless_load(&heap, me, target, object, field));
+        words[target] = word;
+    } else memory_set(target, word);
 }
-void memory_gets(unsigned object, const struct get *gets, unsigned count) {
-    pauseless_field_load loads[3];
-    uint64_t done;
-    for (unsigned i = 0; i < count; i++) {
-        loads[i] = (pauseless_field_load){gets[i].target, gets[i].field};
-        immediates[gets[i].target] = EMPTY;
-    }
+void memory_get_all(const uint32_t *targets, unsigned object, unsigned size) {
+    pauseless_field_load loads[CHUNK_SIZE];
+    uint64_t data[CHUNK_SIZE], done;
+    unsigned count = 0;
+    must(pauseless_get_many(&heap, me, object, 0, data, size));
+    for (unsigned i = size; i > 0; i--)
+        if (has_object(data[i - 1])) loads[count++] = (pauseless_field_load){targets[i - 1], i - 1};
     must(pauseless_loads(&heap, me, object, loads, count, &done));
+    for (unsigned i = 0; i < size; i++) {
+        if (has_object(data[i])) words[targets[i]] = data[i];
+        else memory_set(targets[i], data[i]);
+    }
 }
 void memory_put(unsigned object, unsigned field, unsigned source) {
-    must(pauseless_store(&heap, me, object, field, source));
+    must(pauseless_store(&heap, me, object, field, has_object(words[source]) ? source : NOTHING));
+    must(pauseless_set(&heap, me, object, field, words[source]));
 }
-uint64_t memory_word(unsigned object, unsigned index) {
-    uint64_t word;
-    must(pauseless_get(&heap, me, object, index, &word));
-    return word;
-}
-void memory_set_word(unsigned object, unsigned index, uint64_t word) {
-    must(pauseless_set(&heap, me, object, index, word));
-}
-
-/* The data word tells whether the reference need be loaded. */
-void memory_value(unsigned target, unsigned object) {
-    const uint64_t word = memory_word(object, BESIDE);
-    if (word) memory_clear(target);
-    else memory_get(target, object, 0);
-    immediates[target] = word;
-}
-void memory_set_value(unsigned object, unsigned source) {
-    memory_put(object, 0, source);
-    memory_set_word(object, BESIDE, immediates[source]);
-}
-void memory_next(unsigned first, unsigned rest, unsigned list) {
-    const uint64_t word = memory_word(list, BESIDE);
-    if (word) {
-        memory_get(rest, list, CDR);
-        memory_clear(first);
-        immediates[first] = word;
-    } else if (first == list) memory_gets(list, (const struct get[]){{rest, CDR}, {first, CAR}}, 2);
-    else memory_gets(list, (const struct get[]){{first, CAR}, {rest, CDR}}, 2);
+void memory_set(unsigned target, uint64_t word) {
+    if (has_object(words[target])) must(pauseless_clear(&heap, me, target));
+    words[target] = word;
 }
 void memory_copy(unsigned target, unsigned source) {
-    must(pauseless_copy(&heap, me, target, source));
-    immediates[target] = immediates[source];
-}
-void memory_clear(unsigned target) {
-    must(pauseless_clear(&heap, me, target));
-    immediates[target] = EMPTY;
-}
-bool memory_is_nil(unsigned object) {
-    bool is_so;
-    if (immediates[object]) return false;
-    must(pauseless_is_null(&heap, me, object, &is_so));
-    return is_so;
+    const uint64_t word = words[source];
+    if (has_object(word)) {
+        must(pauseless_copy(&heap, me, target, source));
+        words[target] = word;
+    } else memory_set(target, word);
 }
 bool memory_same(unsigned left, unsigned right) {
-    bool is_so;
-    if (immediates[left] != immediates[right]) return false;
-    must(pauseless_same(&heap, me, left, right, &is_so));
+    bool is_so = words[left] == words[right];
+    if (is_so && has_object(words[left])) must(pauseless_same(&heap, me, left, right, &is_so));
     return is_so;
 }
 void memory_get_global(unsigned target, unsigned global) {
-    must(pauseless_load_global(&heap, me, target, global));
-    immediates[target] = EMPTY;
+    const uint64_t word = global_words[global];
+    if (has_object(word)) {
+        must(pauseless_load_global(&heap, me, target, global));
+        words[target] = word;
+    } else memory_set(target, word);
 }
 void memory_put_global(unsigned global, unsigned source) {
-    must(pauseless_store_global(&heap, me, global, source));
+    const uint64_t word = words[source];
+    if (has_object(word) || has_object(global_words[global]))
+        must(pauseless_store_global(&heap, me, global, has_object(word) ? source : NOTHING));
+    global_words[global] = word;
+}
+struct memory_scope memory_begin_scope(void) { return (struct memory_scope){scope_begin(&handles).first}; }
+unsigned memory_handle(void) { return handle_new(&handles); }
+void memory_end_scope(struct memory_scope scope) {
+    for (uint32_t i = scope.first; i < handles.next; i++) words[i] = NIL;
+    scope_end(&handles, (struct scope){scope.first});
 }
 
 /* Shares the heap when the first thread is started. The collector's thread collects when at most half of the frames
@@ -161,9 +166,10 @@ static void share(void) {
 static void *run_seat(void *argument) {
     const struct seat *seat = argument;
     me = (uint32_t)(seat - seats);
+    handles_open(&handles, &heap, me, FIRST_HANDLE, HANDLES, fail);
     portion = pauseless_enter(&shared);
     seat->work(me);
-    for (unsigned i = 0; i < REGISTERS; i++) memory_clear(i);
+    for (unsigned i = 0; i < REGISTERS; i++) memory_set(i, NIL);
     pauseless_code code = pauseless_give_back(&heap, me);
     if (code != PAUSELESS_NO_ROOM) must(code);
     pauseless_leave(&portion);

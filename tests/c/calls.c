@@ -199,6 +199,27 @@ static void several_data(void) {
     pauseless_free(&heap);
 }
 
+/* Data that are copied within an object, and bytes of them: bytes.c has more. */
+static void bytes_of_data(void) {
+    const uint64_t numbers[] = {0x1716151413121110, 0x2726252423222120, 0x3736353433323130};
+    const pauseless_policy policy = {.words = 64, .free = 1, .percent = 75};
+    unsigned char bytes[] = {1, 2, 3};
+    uint64_t values[] = {0, 0, 0};
+    makes_two();
+    DONE(pauseless_make(&heap, &policy, 2, 4, 2));
+    DONE(pauseless_set_many(&heap, 2, 4, 0, numbers, 3));
+    DONE(pauseless_copy_data(&heap, 2, 4, 1, 4, 0, 3));
+    DONE(pauseless_get_many(&heap, 2, 4, 1, values, 3));
+    SAME(values[0] == numbers[0] && values[1] == numbers[1] && values[2] == numbers[2], true);
+    DONE(pauseless_read_bytes(&heap, 2, 4, 15, bytes, 3));
+    SAME(bytes[0] == 0x17 && bytes[1] == 0x20 && bytes[2] == 0x21, true);
+    DONE(pauseless_write_bytes(&heap, 2, 4, 10, bytes, 3));
+    DONE(pauseless_get_many(&heap, 2, 4, 0, values, 2));
+    SAME(values[0], numbers[0]);
+    SAME(values[1], 0x1716152120171110);
+    pauseless_free(&heap);
+}
+
 /* Loads after one into the object's own register are of the object that it names then. */
 static void loads_on_the_way(void) {
     const pauseless_field_load loads[] = {{.target = 3, .field = 1}, {.target = 4, .field = 0}};
@@ -442,6 +463,9 @@ static void unwritten_without_heap(void) {
     SAME(pauseless_loads(&heap, 0, 0, &(pauseless_field_load){.target = 0}, 1, &loaded), PAUSELESS_NO_HEAP);
     SAME(pauseless_get_many(&heap, 0, 0, 0, &value, 1), PAUSELESS_NO_HEAP);
     SAME(pauseless_set_many(&heap, 0, 0, 0, &value, 1), PAUSELESS_NO_HEAP);
+    SAME(pauseless_copy_data(&heap, 0, 0, 0, 0, 0, 1), PAUSELESS_NO_HEAP);
+    SAME(pauseless_read_bytes(&heap, 0, 0, 0, &value, 1), PAUSELESS_NO_HEAP);
+    SAME(pauseless_write_bytes(&heap, 0, 0, 0, &value, 1), PAUSELESS_NO_HEAP);
     SAME(loaded, 0);
     SAME(object.birth, 11);
     SAME(done.live == 12 && done.emptied == 13, true);
@@ -480,6 +504,7 @@ int main(void) {
     references();
     several_loads();
     several_data();
+    bytes_of_data();
     parts_for_buffers(false);
     parts_for_buffers(true);
     loads_on_the_way();

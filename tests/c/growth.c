@@ -88,7 +88,7 @@ int main(void) {
     DONE(pauseless_new(&heap, &sizes, &layout, 1));
     const double took = now() - began, made = resident() - before;
     printf("a new heap: %.1f ms, %.1f MiB\n", took, made);
-    at_most("MiB of a new heap", made, 5);
+    at_most("MiB of a new heap", made, 6);
     DONE(pauseless_set_growth(&heap, LEAST, GROWTH));
     lengthen(MIB_OBJECTS);
     settles("1 MiB at first", 1);

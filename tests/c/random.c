@@ -1,5 +1,6 @@
 /* Random calls by three threads, with collections at once and in parts between them: each answers what a plain heap
  * that never moves or frees an object would, and no code but those that the header lists for such a program. */
+#include "below.h"
 #include "same.h"
 #include <string.h>
 
@@ -23,14 +24,6 @@ static int registers[THREADS][REGISTERS], globals[GLOBALS], births;
 
 /* How often each code was met. */
 static unsigned met[PAUSELESS_UNSOUND + 1];
-
-static uint32_t below(uint32_t limit) {
-    static uint64_t state = UINT64_C(0x9e3779b97f4a7c15);
-    state ^= state << 13;
-    state ^= state >> 7;
-    state ^= state << 17;
-    return (uint32_t)(state >> 33) % limit;
-}
 
 static bool meets(pauseless_code code, pauseless_code wanted, int line) {
     met[pauseless_class(code)]++;

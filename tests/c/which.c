@@ -81,6 +81,14 @@ static void of_data(void) {
     NO_DATUM(pauseless_get_many(&heap, 1, 0, 0, values, 3));
     NO_REGISTER(pauseless_set_many(&heap, 1, 3, 0, values, 1));
     NO_DATUM(pauseless_set_many(&heap, 1, 0, 1, values, 2));
+    NO_REGISTER(pauseless_copy_data(&heap, 1, 3, 0, 0, 0, 1));
+    NO_REGISTER(pauseless_copy_data(&heap, 1, 0, 0, 3, 0, 1));
+    NO_DATUM(pauseless_copy_data(&heap, 1, 0, 1, 0, 0, 2));
+    NO_DATUM(pauseless_copy_data(&heap, 1, 0, 0, 0, 1, 2));
+    NO_REGISTER(pauseless_read_bytes(&heap, 1, 3, 0, values, 1));
+    NO_DATUM(pauseless_read_bytes(&heap, 1, 0, 9, values, 8));
+    NO_REGISTER(pauseless_write_bytes(&heap, 1, 3, 0, values, 1));
+    NO_DATUM(pauseless_write_bytes(&heap, 1, 0, 16, values, 1));
 }
 
 static void of_objects(void) {

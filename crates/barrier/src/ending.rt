@@ -1,5 +1,4 @@
-//! Places are healed, and loads end: the second half of the paper's read barrier. That `heal`
-//! compares before it writes is ours.
+//! The second half of the read barrier: healing places, and ending loads.
 
 ghost use Rattle.std.specs.Prelude.{◌≡◌};
 ghost use Rattle.model.specs.Refusing.{Does};
@@ -14,7 +13,7 @@ use heap::{Heap, RawEdits};
 use model::{Barrier, Counter, Refusal};
 use refword::Word;
 
-/// Whether bits are there, and are those of a word.
+/// Returns whether bits exist and are those of a reference.
 fn are_bits_of(bits: Option<u64>, word: Word) -> bool
     ensures { result ≡ are_bits_of bits word }
 {
@@ -36,7 +35,7 @@ fn set_healed(barrier: Barrier) -> Barrier
     }
 }
 
-/// Writes the word of a barrier back, where its place still has what was loaded. Gives whether it
+/// Writes the reference in a barrier back to its place, if the place still has what was loaded. Returns whether it
 /// has.
 #[tactic(auto, unfolding(model::specs::Loads::heal_place))]
 fn heal_place(heap: &mut Heap, thread: u32, barrier: Barrier) -> bool
@@ -52,10 +51,10 @@ fn heal_place(heap: &mut Heap, thread: u32, barrier: Barrier) -> bool
     }
 }
 
-/// The place of a thread's load gets the word in its barrier, where it still has what was loaded.
-/// Gives whether it has. Threads count from 0.
+/// Writes the reference in a thread's barrier back to the place of the load, if the place still has what was loaded.
+/// Returns whether it has. Threads count from 0.
 ///
-/// Refused where no barrier is open (`NotBusy`), and where a trap is due (`Busy`).
+/// Fails with `NotBusy` if no barrier is open, and with `Busy` if a trap is due.
 #[tactic(auto, unfolding(model::specs::Loads::heal_outcome))]
 pub fn heal(heap: &mut Heap, thread: u32) -> Result<bool, Refusal>
     requires { Passes heap.old thread steps.Heal }
@@ -70,8 +69,8 @@ pub fn heal(heap: &mut Heap, thread: u32) -> Result<bool, Refusal>
     Ok(heal_place(heap, thread, barrier))
 }
 
-/// Whether a load may end: its word is the one that was loaded, or its place is healed. Else its
-/// heal is still to come.
+/// Returns whether a load may end: the reference is the one that was loaded, or its place is healed. Else `heal` has
+/// to come first.
 #[inline(always)]
 pub fn may_finish(barrier: &Barrier) -> bool
     ensures { result ≡ may_finish barrier.entry.now }
@@ -79,7 +78,7 @@ pub fn may_finish(barrier: &Barrier) -> bool
     barrier.healed || barrier.now.bits() == barrier.raw.bits()
 }
 
-/// Ends a load for whose word no trap is due.
+/// Ends a load for whose reference no trap is due.
 #[inline(always)]
 #[tactic(auto, unfolding(model::specs::Loads::end_load))]
 fn end_load(heap: &mut Heap, thread: u32, barrier: Barrier) -> Result<(), Refusal>
@@ -92,11 +91,10 @@ fn end_load(heap: &mut Heap, thread: u32, barrier: Barrier) -> Result<(), Refusa
     Ok(())
 }
 
-/// A thread's load ends: its register gets the word in the barrier, which closes. Threads count
-/// from 0.
+/// Ends a thread's load: its register gets the reference in the barrier, which closes. Threads count from 0.
 ///
-/// Refused where no barrier is open (`NotBusy`); `Busy` where a trap is due, or the word was
-/// corrected and its place isn't healed.
+/// Fails with `NotBusy` if no barrier is open; `Busy` if a trap is due, or if the reference was corrected and its
+/// place isn't healed.
 #[inline(always)]
 #[tactic(auto, unfolding(model::specs::Loads::finish_outcome))]
 pub fn finish(heap: &mut Heap, thread: u32) -> Result<(), Refusal>

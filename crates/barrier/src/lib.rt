@@ -1,9 +1,5 @@
-//! The read barrier: a load opens a barrier, traps correct its word, its place is healed, and the
-//! load ends.
-//!
-//! The paper is Click, Tene and Wolf, "The Pauseless GC Algorithm" (VEE 2005). A comment that names
-//! one of its sections tells a rule of that section; all else is ours. That a load is several
-//! steps, between which other threads act, is ours.
+//! The read barrier: a load opens a barrier, traps correct its reference, its place is healed, and the load ends.
+//! Each is a step; other threads act between them.
 #![tactic(auto)]
 
 mod ending;

@@ -1,4 +1,4 @@
-//! Loads begin: the first half of the paper's read barrier.
+//! The first half of the read barrier: beginning loads.
 
 ghost use Rattle.std.specs.Prelude.{◌≡◌, Ok};
 ghost use Rattle.model.specs.Refusing.{Does};
@@ -12,7 +12,7 @@ use heap::{Heap, RawEdits, read_reference};
 use model::{Barrier, Counter, Place, Refusal};
 use refword::Word;
 
-/// The barrier of a load that has just read a word.
+/// Returns the barrier of a load that has just read a reference.
 #[inline(always)]
 fn new_barrier(target: u32, place: Place, word: Word) -> Barrier
     ensures { result ≡ new_barrier target place word }
@@ -26,10 +26,10 @@ fn new_barrier(target: u32, place: Place, word: Word) -> Barrier
     }
 }
 
-/// A thread begins to load a reference of an object for a register. Threads, registers and
-/// references count from 0.
+/// Begins to load a reference of an object into a register of a thread. Threads, registers and references count from
+/// 0.
 ///
-/// Refused as `Heap::usable` is for the object; `BadIndex` where it has no such reference.
+/// Fails as `Heap::usable` does for the object's register, and with `BadIndex` if the object has no such reference.
 #[inline(always)]
 #[tactic(auto, unfolding(model::specs::Loads::load_outcome))]
 pub fn load(
@@ -58,8 +58,7 @@ pub fn load(
     Ok(())
 }
 
-/// A thread begins to load a global for a register. Threads, registers and globals count from 0.
-/// Refuses nothing.
+/// Begins to load a global into a register of a thread. Threads, registers and globals count from 0. It can't fail.
 #[inline(always)]
 #[tactic(auto, unfolding(model::specs::Loads::load_global_outcome))]
 pub fn load_global(heap: &mut Heap, thread: u32, target: u32, global: u32)

@@ -1,4 +1,4 @@
-//! Traps: what is due for the word of a barrier, as the paper's section on the read barrier has it.
+//! Traps: which one is due for the reference in a barrier, and its effect.
 
 ghost use Rattle.std.specs.Prelude.{◌≡◌, Ok};
 ghost use Rattle.model.specs.Refusing.{Does};
@@ -14,7 +14,7 @@ use model::{Barrier, Counter, Phase, Refusal, Trap};
 use refword::Word;
 use relocate::follow;
 
-/// Whether a GC trap is due: the word names a page that the thread may not use.
+/// Returns whether a GC trap is due: the reference leads to a page that the thread may not use.
 #[inline(always)]
 fn gc_trap_due(heap: &Heap, thread: u32, word: Word) -> bool
     ensures { result ≡ gc_trap_due heap.now thread word }
@@ -25,7 +25,7 @@ fn gc_trap_due(heap: &Heap, thread: u32, word: Word) -> bool
     }
 }
 
-/// Whether an NMT trap is due: the word has still to be marked.
+/// Returns whether an NMT trap is due: the running mark hasn't seen the reference.
 #[inline(always)]
 fn nmt_trap_due(heap: &Heap, thread: u32, word: Word) -> bool
     ensures { result ≡ nmt_trap_due heap.now thread word }
@@ -36,7 +36,7 @@ fn nmt_trap_due(heap: &Heap, thread: u32, word: Word) -> bool
     heap.phase().may_nmt_trap(heap.has_crossed(thread)) && word.nmt() != heap.nmt()
 }
 
-/// Whether a trap is due for a word that a thread, by its number from 0, has loaded.
+/// Returns whether a trap is due for a reference that a thread, by its number from 0, has loaded.
 #[inline(always)]
 #[tactic(auto, unfolding(model::specs::Loads::trap_due))]
 pub fn trap_due(heap: &Heap, thread: u32, word: Word) -> bool
@@ -45,7 +45,7 @@ pub fn trap_due(heap: &Heap, thread: u32, word: Word) -> bool
     gc_trap_due(heap, thread, word) || nmt_trap_due(heap, thread, word)
 }
 
-/// A barrier with another word.
+/// Returns a barrier with another reference.
 fn set_now(barrier: Barrier, word: Word) -> Barrier
     ensures { result ≡ set_now_of word barrier }
 {
@@ -58,7 +58,8 @@ fn set_now(barrier: Barrier, word: Word) -> Barrier
     }
 }
 
-/// The NMT trap: the word of a barrier is marked, where that is due.
+/// Does the NMT trap: marks the reference in a barrier if that is due.
+#[inline(always)]
 fn nmt_trap(heap: &mut Heap, thread: u32, barrier: Barrier) -> Trap
     ensures { nmt_trap heap.old thread barrier ≡ Ok (heap.new, trapped result) }
 {
@@ -70,8 +71,8 @@ fn nmt_trap(heap: &mut Heap, thread: u32, barrier: Barrier) -> Trap
     Trap::Marked
 }
 
-/// The GC trap: the word of a barrier names the copy, which is made first where it wasn't. Refused
-/// as `Stall` while pages are being protected.
+/// Does the GC trap: replaces the reference in a barrier with one to the copy, which is made first if it isn't there.
+/// Fails with `Stall` while pages are being protected.
 fn gc_trap(heap: &mut Heap, thread: u32, barrier: Barrier) -> Result<Trap, Refusal>
     ensures { Does heap.old (said trapped result) heap.new (gc_trap heap.old thread barrier barrier.now) }
 {
@@ -86,12 +87,12 @@ fn gc_trap(heap: &mut Heap, thread: u32, barrier: Barrier) -> Result<Trap, Refus
     Ok(Trap::Moved)
 }
 
-/// A thread, by its number from 0, asks for the trap that is due for its word. Where it is a GC
-/// trap, the word names the copy of its object, which is made first where it wasn't (`Moved`); where
-/// it is an NMT trap, the word is marked (`Marked`); where none is due, it gives `Clear`.
+/// Does the trap that is due for a thread's reference, by the thread's number from 0, and returns which: a GC trap
+/// replaces it with one to the object's copy, which is made first if it isn't there (`Moved`); an NMT trap marks it
+/// (`Marked`). Returns `Clear` if none is due.
 ///
-/// Refused where no barrier is open (`NotBusy`), and where a GC trap is due while some thread hasn't
-/// crossed the checkpoint of protected pages (`Stall`).
+/// Fails with `NotBusy` if no barrier is open, and with `Stall` if a GC trap is due while pages are being protected
+/// and some thread hasn't crossed.
 #[inline(always)]
 #[tactic(auto, unfolding(model::specs::Traps::trap_outcome))]
 pub fn trap(heap: &mut Heap, thread: u32) -> Result<Trap, Refusal>

@@ -1,7 +1,4 @@
-//! Checkpoints, and threads that are parked.
-//!
-//! The paper is Click, Tene and Wolf, "The Pauseless GC Algorithm" (VEE 2005). A comment that names
-//! one of its sections tells a rule of that section; all else is ours.
+//! Checkpoints, and parking threads.
 #![tactic(auto)]
 
 ghost use Rattle.std.specs.Prelude.{◌≡◌, Ok};
@@ -21,7 +18,7 @@ use model::{Answer, Phase, Refusal, Reply};
 use refword::Addr;
 use relocate::follow;
 
-/// Marks the word in a register; its object is copied first where it wasn't. Threads and registers count from 0.
+/// Marks the reference in a register, whose object is copied first if needed. Threads and registers count from 0.
 #[tactic(auto, unfolding(model::specs::Checkpoints::with_marked_register, model::specs::Checkpoints::with_marked_word))]
 fn mark_register(heap: &mut Heap, thread: u32, register: u32)
     ensures { heap.new ≡ with_marked_register heap.old thread register }
@@ -31,7 +28,7 @@ fn mark_register(heap: &mut Heap, thread: u32, register: u32)
     heap.set_register(thread, register, marked);
 }
 
-/// Marks the words in so many registers of a thread.
+/// Marks the references in the first `count` registers of a thread.
 #[tactic(auto, using(crate::proofs::Registers::marked_more))]
 fn mark_registers(heap: &mut Heap, thread: u32, count: u32)
     ensures { heap.new ≡ with_marked_registers heap.old thread count }
@@ -41,7 +38,7 @@ fn mark_registers(heap: &mut Heap, thread: u32, count: u32)
     }
 }
 
-/// How many registers of a thread a crossing marks.
+/// Returns how many registers of a thread a crossing marks: all at a mark's checkpoint, else none.
 fn marked_at_crossing(heap: &Heap) -> u32
     ensures { result ≡ marked_at_crossing heap.now }
 {
@@ -62,8 +59,8 @@ fn cross_thread(heap: &mut Heap, thread: u32)
     heap.set_crossed(thread);
 }
 
-/// Whether a thread has still to cross the open checkpoint. Refused where none is open (`Phase`),
-/// and where the thread has crossed (`AlreadyCrossed`).
+/// Tests whether a thread has yet to cross the open checkpoint. Fails with `Phase` if none is open, and with
+/// `AlreadyCrossed` if the thread has crossed.
 #[tactic(auto, unfolding(model::specs::Checkpoints::may_cross))]
 fn may_cross(heap: &Heap, thread: u32) -> Result<(), Refusal>
     ensures { result ≡ may_cross heap.now thread }
@@ -77,7 +74,7 @@ fn may_cross(heap: &Heap, thread: u32) -> Result<(), Refusal>
     Ok(())
 }
 
-/// What `cross` does, for either actor.
+/// Does what `cross` does, for a thread's step and for a worker's.
 #[tactic(auto, unfolding(model::specs::Checkpoints::cross_outcome))]
 fn cross_open(heap: &mut Heap, thread: u32) -> Result<(), Refusal>
     ensures { Does heap.old (said done result) heap.new (cross_outcome heap.old thread) }
@@ -87,11 +84,11 @@ fn cross_open(heap: &mut Heap, thread: u32) -> Result<(), Refusal>
     Ok(())
 }
 
-/// A thread crosses the open checkpoint (the paper's checkpoints). At a mark's checkpoint the words
-/// in its registers are marked; at that of protected pages they stay (ours). Where the thread is
-/// the last, the next phase begins. Threads count from 0.
+/// Crosses the open checkpoint for a thread. At a mark's checkpoint the references in its registers are marked; at
+/// that of protected pages registers stay as they are. If the thread is the last, the next phase begins. Threads
+/// count from 0.
 ///
-/// Refused where no checkpoint is open (`Phase`), and where it has crossed (`AlreadyCrossed`).
+/// Fails with `Phase` if no checkpoint is open, and with `AlreadyCrossed` if the thread has crossed.
 pub fn cross(heap: &mut Heap, thread: u32) -> Result<(), Refusal>
     requires { Passes heap.old thread steps.Cross }
     ensures { Does heap.old (said done result) heap.new (cross_outcome heap.old thread) }
@@ -99,10 +96,9 @@ pub fn cross(heap: &mut Heap, thread: u32) -> Result<(), Refusal>
     cross_open(heap, thread)
 }
 
-/// A worker crosses the open checkpoint for a parked thread (the paper's checkpoints: it is done for
-/// a blocked thread). Workers and threads count from 0.
+/// Crosses the open checkpoint for a parked thread, as a worker's step. Workers and threads count from 0.
 ///
-/// Refused where the thread isn't parked (`NotParked`), and then as `cross` is.
+/// Fails with `NotParked` if the thread isn't parked, and then as `cross` does.
 #[tactic(auto, unfolding(model::specs::Checkpoints::cross_for_outcome))]
 pub fn cross_for(heap: &mut Heap, worker: u32, thread: u32) -> Reply
     requires { WorkerPasses heap.old worker (steps.CrossFor thread) }
@@ -116,7 +112,8 @@ pub fn cross_for(heap: &mut Heap, worker: u32, thread: u32) -> Reply
     }
 }
 
-/// Corrects the word in a register, where the thread may not use its address for good.
+/// Corrects the reference in a register unless the thread may use it as it is. Returns whether it did. Fails with
+/// `Stall` while pages are being protected.
 fn scrub_word(
     heap: &mut Heap,
     thread: u32,
@@ -137,12 +134,12 @@ fn scrub_word(
     Ok(true)
 }
 
-/// A register that names a protected page is corrected: it names the copy, which is made first where
-/// it wasn't; where it may be used as it is, it stays (ours). Gives whether it was corrected. Threads
-/// and registers count from 0.
+/// Corrects a register that refers to a protected page: it then refers to the copy, which is made first if it isn't
+/// there. A register that may be used as it is stays. Returns whether it was corrected. Threads and registers count
+/// from 0.
 ///
-/// Refused where it is null (`Null`), and where it names a protected page while some thread hasn't
-/// crossed the checkpoint of protected pages, and this one has (`Stall`).
+/// Fails with `Null` if the register is null, and with `Stall` if it refers to a protected page, this thread has
+/// crossed the checkpoint of protected pages, and some thread hasn't.
 #[tactic(auto, unfolding(model::specs::Traps::scrub_outcome))]
 pub fn scrub(heap: &mut Heap, thread: u32, register: u32) -> Result<bool, Refusal>
     requires { Passes heap.old thread (steps.Scrub register) }
@@ -155,8 +152,7 @@ pub fn scrub(heap: &mut Heap, thread: u32, register: u32) -> Result<bool, Refusa
     }
 }
 
-/// A thread is parked: it does nothing but `Unpark` (ours; the paper's checkpoints speak of blocked
-/// threads). Threads count from 0. Refuses nothing.
+/// Parks a thread: it may do nothing but `Unpark`. Threads count from 0. It can't fail.
 #[tactic(auto, unfolding(model::specs::Checkpoints::park_outcome))]
 pub fn park(heap: &mut Heap, thread: u32)
     requires { Passes heap.old thread steps.Park }
@@ -165,7 +161,7 @@ pub fn park(heap: &mut Heap, thread: u32)
     heap.set_parked(thread, true);
 }
 
-/// A thread runs again (ours). Threads count from 0. Refused where it isn't parked (`NotParked`).
+/// Lets a parked thread run again. Threads count from 0. Fails with `NotParked` if it isn't parked.
 #[tactic(auto, unfolding(model::specs::Checkpoints::unpark_outcome))]
 pub fn unpark(heap: &mut Heap, thread: u32) -> Result<(), Refusal>
     requires { Passes heap.old thread steps.Unpark }

@@ -1,4 +1,4 @@
--- Which pages are chosen to be emptied (ours).
+-- The relocation set: which pages are chosen to be emptied.
 use Rattle.std.specs.Prelude.{◌≡◌, ◌≤◌, ◌<◌, ℕ, zero, suc, ◌+◌, ◌*◌, ◌&&◌, Bool, true, false, List, [], ◌∷◌, ◌++◌}
 use Rattle.std.specs.Prelude.{length, map, take, nat_le}
 use Rattle.std.specs.Prelude.{Option, Some, None, if◌then◌else◌, IsPermutation, IsSorted}
@@ -9,7 +9,7 @@ use Rattle.model.specs.Stores.{state_at}
 use Rattle.model.specs.Plans.{live_offsets, object_words, plan_of, target_count}
 use Rattle.model.specs.Protections.{is_closed, free_count, unused_count}
 
--- how many words the object at an offset of page n has
+-- the number of words of the object at an offset of page n
 abbrev pub size_on : HeapState → ℕ → ℕ → ℕ
 size_on h n o = object_words h (n * h.store.words + o)
 
@@ -17,31 +17,31 @@ size_on h n o = object_words h (n * h.store.words + o)
 abbrev pub sizes_on : HeapState → ℕ → List ℕ
 sizes_on h n = map (size_on h n) (live_offsets h n)
 
--- how many words the live objects of page n have
+-- the number of live words of page n
 abbrev pub live_words : HeapState → ℕ → ℕ
 live_words h n = sum_by (size_on h n) (live_offsets h n)
 
 abbrev pub is_closed_at : HeapState → ℕ → Bool
 is_closed_at h n = is_closed (state_at h.store n)
 
--- page n is closed, and at most so many words of a hundred are live
+-- page n is closed, and at most the given percentage of its words is live
 abbrev pub is_sparse : HeapState → ℕ → ℕ → Bool
 is_sparse h percent n = is_closed_at h n && nat_le (live_words h n * 100) (percent * h.store.words)
 
--- page n behind its live words
+-- page n with its number of live words before it
 abbrev pub measured : HeapState → ℕ → ℕ × ℕ
 measured h n = (live_words h n, n)
 
 abbrev pub measured_if : HeapState → ℕ → ℕ → Option (ℕ × ℕ)
 measured_if h percent n = if is_sparse h percent n then Some (measured h n) else None
 
--- those of pages 1 to n that are sparse, each behind its live words
+-- the sparse ones of pages 1 to n, each with its number of live words before it
 abbrev pub sparse_to : HeapState → ℕ → ℕ → List (ℕ × ℕ)
 sparse_to h percent zero = []
 sparse_to h percent (suc n) = if is_sparse h percent (suc n) then sparse_to h percent n ++ measured h (suc n) ∷ []
     else sparse_to h percent n
 
--- all sparse pages, each behind its live words
+-- all sparse pages, each with its number of live words before it
 abbrev pub sparse_pages : HeapState → ℕ → List (ℕ × ℕ)
 sparse_pages h percent = sparse_to h percent h.store.count
 
@@ -49,27 +49,27 @@ sparse_pages h percent = sparse_to h percent h.store.count
 abbrev pub page_of : ℕ × ℕ → ℕ
 page_of p = p.1
 
--- it is a page of the heap
+-- it is the number of a page of the heap
 abbrev pub ArePages : HeapState → ℕ × ℕ → Type 0
 ArePages h p = (0 < p.1) × (p.1 ≤ h.store.count)
 
--- by live words, and of as many by number
+-- by live words, and by number if these are equal
 abbrev pub IsRising : List (ℕ × ℕ) → Type 0
 IsRising ps = IsSorted (λ (x : ℕ × ℕ) (y : ℕ × ℕ). ordering_then (nat_cmp x.0 y.0) (nat_cmp x.1 y.1)) ps
 
--- the plan of pages finds enough free frames and unused pages
+-- there are enough free frames and unused pages for the plan of pages
 abbrev pub has_room_for : HeapState → List ℕ → Bool
 has_room_for h pages =
     nat_le (target_count (plan_of h pages)) (free_count h.store)
     && nat_le (target_count (plan_of h pages)) (unused_count h.store)
 
--- the longest beginning of a list of pages for which there is room
+-- the longest prefix of a list of pages for which there is space
 abbrev pub IsLongest : HeapState → List ℕ → List ℕ → Type 0
 IsLongest h ns xs = (k : ℕ) × (xs ≡ take k ns) × (has_room_for h xs ≡ true)
     × ((j : ℕ) → k < j → j ≤ length ns → has_room_for h (take j ns) ≡ false)
 
--- The sparse pages by rising live words, of as many by rising numbers, cut to the longest beginning for which there is
--- room.
+-- The sparse pages by rising numbers of live words, and by rising page numbers if these are equal, cut to the longest
+-- prefix for which there is space.
 abbrev pub IsChoice : HeapState → ℕ → List ℕ → Type 0
 IsChoice h percent xs = (ps : List (ℕ × ℕ)) × IsPermutation (sparse_pages h percent) ps × IsRising ps
     × IsLongest h (map page_of ps) xs

@@ -5,13 +5,13 @@ use Rattle.model.specs.States.{HeapState}
 use Rattle.choosing.specs.declared.packing.Packing.{Packing}
 use Rattle.choosing.specs.Choices.{sizes_on}
 
--- behind an object of n words: in the present target where it fits, else at the head of the next one
+-- after an object of n words: in the present target if it fits, else at the start of the next one
 unfoldable pub pack_one : ℕ → Packing → ℕ → Packing
 pack_one words s n =
     if nat_le (s.offset + n) words then record { target = s.target; offset = s.offset + n; count = s.target + 1 }
     else record { target = s.target + 1; offset = n; count = s.target + 2 }
 
--- behind objects of these sizes
+-- after objects of these sizes
 abbrev pub pack : ℕ → Packing → List ℕ → Packing
 pack words s [] = s
 pack words s (n ∷ ns) = pack words (pack_one words s n) ns
@@ -20,10 +20,10 @@ pack words s (n ∷ ns) = pack words (pack_one words s n) ns
 abbrev pub first_packing : Packing
 first_packing = record { target = 0; offset = 0; count = 0 }
 
--- there is a page n, and no more was packed than a heap can have
+-- page n exists, and no more was packed than a heap can have
 abbrev pub has_page_for : HeapState → ℕ → Packing → Bool
 has_page_for h n s = not (n == 0) && nat_le n h.store.count && nat_le s.target (2 ^ 32) && nat_lt s.offset (2 ^ 17)
 
--- behind the live objects of page n, where there is such a page
+-- after the live objects of page n, if there is such a page
 abbrev pub pack_if : HeapState → ℕ → Packing → Option Packing
 pack_if h n s = if has_page_for h n s then Some (pack h.store.words s (sizes_on h n)) else None

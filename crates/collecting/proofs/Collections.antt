@@ -111,7 +111,7 @@ none_from (p ∷ ps) k =
 few_records : (frames count : ℕ) → record_count frames count ≤ count
 few_records frames count = grind (arith, nat_tests)
 
--- no page of so many is
+-- none of the first n pages is being emptied
 pub left_all : (h g : HeapState) (n : ℕ) → IsStore g.store → is_crossing h.phase ≡ false → h.store.count ≤ n
     → LeftPages h n g → EndsLeftPages h (Ok tt) g
 unfolding state_at page_at

@@ -1,4 +1,4 @@
--- Collections that are counted beside a heap.
+-- Counters of collections, alongside a heap.
 use Rattle.std.proofs.Common.{◌≡◌, ◌∙◌, ℕ, true, refl, sym, subst, ap, inl, inr}
 use Rattle.std.specs.Prelude.{Result, Err}
 use Rattle.std.proofs.lemmas.Bool.{or_parts, true≢false}
@@ -35,7 +35,7 @@ pub counted_once : (cause : Cause) (percent : ℕ) (h g : HeapState) (r : Result
     → CollectsWhole percent h r g → new ≡ counted cause r old → HasCounted cause percent h old new
 counted_once cause percent h g r old new ends counts = (r, g, ends, counts)
 
--- a Take is refused for a lack of room only as the heap stands
+-- a Take is rejected for lack of space only on the current heap
 pub lacks_here : (t n percent : ℕ) (h g : HeapState) (q : Result Buffer Refusal) (e : Refusal) → q ≡ Err e
     → lacks_room e ≡ true → RefillsBy IsAny t n percent h q g → LacksRoom t n g
 lacks_here t n percent h g q e is room k =

@@ -23,7 +23,7 @@ use Rattle.choosing.specs.declared.packing.Packing.{Packing}
 use Rattle.choosing.specs.Choices.{IsRising, has_room_for, page_of, size_on, sizes_on}
 use Rattle.choosing.specs.Packings.{has_page_for, pack, pack_if, pack_one}
 use Rattle.choosing.proofs.Cuts.{IsBeginning, behind, goes_on, is_cut, is_whole, room_in}
-use Rattle.collecting.specs.Stages.{IsChosen, IsFitting, allowed}
+use Rattle.collecting.specs.Stages.{IsChosen, IsFitting, dead_count, emptied_of}
 
 -- ---- sizes
 
@@ -175,8 +175,6 @@ fits_none h ps i d xs s o store l b told is =
 
 -- ---- the choice
 
-pub is_chosen : (h : HeapState) (budget : ℕ) (found ps first : List (ℕ × ℕ)) (xs : List ℕ) → IsPermutation found ps
-    → IsRising ps → first ≡ take (allowed h budget ps) ps → IsFitting h (map page_of first) xs
-    → IsChosen h budget found xs
-is_chosen h budget found ps first xs same rising is fits =
-    (ps, same, rising, subst (λ (qs : List (ℕ × ℕ)). IsFitting h (map page_of qs) xs) is fits)
+pub is_chosen : (h : HeapState) (found ps : List (ℕ × ℕ)) (ns xs : List ℕ) → IsPermutation found ps → IsRising ps
+    → IsFitting h (map page_of ps) ns → xs ≡ take (emptied_of (dead_count ps) (length ns)) ns → IsChosen h found xs
+is_chosen h found ps ns xs same rising fits is = (ps, ns, same, rising, fits, is)

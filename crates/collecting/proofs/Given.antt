@@ -1,4 +1,4 @@
--- Who has given its buffer back isn't refused for having one.
+-- A thread that has given its buffer back isn't rejected for having one.
 use Rattle.std.proofs.Common.{◌≡◌, ◌∙◌, ℕ, Bool, true, false, length, Option, Some, None, nat_le, cond, refl, sym}
 use Rattle.std.proofs.Common.{subst, ap}
 use Rattle.std.specs.Prelude.{Result, Ok, Err, is_some, if◌then◌else◌, ◌&&◌, ◌||◌}

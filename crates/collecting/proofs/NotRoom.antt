@@ -1,4 +1,4 @@
--- What a collection is refused as: never that there are too few frames or pages.
+-- The errors of a collection: never that there are too few frames or pages.
 use Rattle.std.proofs.Common.{◌≡◌, ◌⊎◌, ◌∙◌, ℕ, ◌+◌, ◌*◌, Bool, true, false, cond, not, List, [], ◌∷◌, nat_le, nat_lt}
 use Rattle.std.proofs.Common.{Option, Some, None, refl, ap, inl, inr, arith}
 use Rattle.std.specs.Prelude.{Result, Ok, Err, if◌then◌else◌, ◌&&◌, ◌||◌, is_some, length, slice_get}

@@ -101,7 +101,7 @@ scanned h g (Ok true) a k = (scans_collect WORKER h g a, k, scans_phase WORKER h
 scanned h g (Ok false) a k = scans_collect WORKER h g a
 scanned h g (Err e) a k = (a, k)
 
--- a part of what comes before objects that are scanned whole
+-- a part of the preparation of scans of complete objects
 pub scanned_before : (h g : HeapState) (b : Bool) → b ≡ true → Prepares WORKER h b g → Collects h g
 scanned_before h g b is k = drains_collect WORKER h g (prepares_goes WORKER h g b k)
 
@@ -159,7 +159,7 @@ part_goes h g (Ok false) k = k
 part_goes h g (Err e) (inl k) = k.0
 part_goes h g (Err e) (inr k) = subst (Collects h) (sym k.1) (none h)
 
--- registers are corrected behind it
+-- registers are corrected after it
 pub part_scrubbed : (h m g : HeapState) (r : Result Bool Refusal) (last b : Bool) → r ≡ Ok last → EndsStage h r m
     → Goes IsScrub m g → (b ≡ true → HasEnded g) → EndsPart h (Ok b) g
 part_scrubbed h m g r last b is k a ends = by_end b ends

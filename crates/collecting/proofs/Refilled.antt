@@ -47,7 +47,7 @@ wider t (Worker w) step is = is
 pub collects_refill : (t : ℕ) (h g : HeapState) → Collects h g → Refills t h g
 collects_refill t h g k = goes_wider (IsCollecting WORKER) (IsRefill t) (wider t) h g k
 
--- what was done before stays known, and counts from an earlier heap on
+-- the steps before stay known, and count from an earlier heap on
 abbrev Reaches : ℕ → (HeapState → HeapState → Type 0) → Type 0
 Reaches t Q = (h m g : HeapState) → Refills t h m → Q m g → Q h g
 
@@ -215,7 +215,7 @@ marked_stops t n percent h g c e is a =
     let k : MarksWhole h (Err e) g = subst (λ (x : Result ℕ Refusal). MarksWhole h x g) is a in
     (collects_refill t h g k.0, inr (inr (h, goes_none (IsRefill t) h, k.1 percent)))
 
--- what was taken at once, or refused for something else than room
+-- the words were taken at once, or the error is another one than lack of space
 pub at_once : (Q : HeapState → HeapState → Type 0) (t n percent : ℕ) (h g : HeapState) (q : Result Buffer Refusal)
     (b : Buffer) → q ≡ Ok b → RefillsBy IsAny t n percent h q g → RefillsBy Q t n percent h (Ok b) g
 at_once Q t n percent h g q b is a = subst (λ (x : Result Buffer Refusal). RefillsBy IsAny t n percent h x g) is a
@@ -230,7 +230,7 @@ not_room Q t n percent h g q e is other a =
     by_case (k, inl refused) = (k, inl (refused.0, refused.1, λ l. absurd (true≢false (sym l ∙ other))))
     by_case (k, inr ends) = (k, inr ends)
 
--- what was refused, and what comes then
+-- the request was rejected, and what comes then
 pub refused_mark : (t n percent : ℕ) (h m g : HeapState) (q r : Result Buffer Refusal)
     → RefillsBy IsAny t n percent h q m → RefillsBy (HasMarkedSince t) t n percent m r g
     → RefillsBy (HasMarkedSince t) t n percent h r g

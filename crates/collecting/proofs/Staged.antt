@@ -1,7 +1,7 @@
 -- Parts of a collection, from one to the next.
 use Rattle.std.proofs.Common.{◌≡◌, ◌∙◌, ℕ, suc, ◌+◌, ◌≤◌, ◌<◌, Bool, true, false, List, [], ◌∷◌, length}
 use Rattle.std.proofs.Common.{Option, Some, None, refl, sym, subst, ap, inl, inr, arith, eq-eqb, eqb-true}
-use Rattle.std.specs.Prelude.{Result, Ok, Err, ◌==◌}
+use Rattle.std.specs.Prelude.{Result, Ok, Err, ◌==◌, nat_le}
 use Rattle.std.specs.List.{slice_get}
 use Rattle.std.proofs.lemmas.Bool.{true≢false}
 use Rattle.model.specs.declared.steps.Actor.TheVariants.{Worker}
@@ -27,9 +27,10 @@ use Rattle.collecting.specs.Parts.{EndsCrossing, EndsPortion, EndsProtecting, En
 use Rattle.collecting.specs.Parts.{is_memory}
 use Rattle.collecting.specs.Parts.{Crossing, Emptying}
 use Rattle.collecting.specs.Stages.{PartsState, at_stage, passed, EndsMarking, MarksOn, TellsAnew, EndsCrossed}
-use Rattle.collecting.specs.Stages.{ProtectsSome, ProtectsOn, ChoosesAll, ChoosesOn, IsChosen}
+use Rattle.collecting.specs.Stages.{ProtectsSome, ProtectsOn, ChoosesAll, IsChosen}
+use Rattle.collecting.specs.Stages.{PreparesIf, PreparesOn, PreparesSome}
 use Rattle.collecting.specs.Stages.{EmptiesOn, EndsOne, GoesOnIn, GoesOn, PartGoesOn}
-use Rattle.collecting.specs.Stages.{Measures, measured_by, measured_one, pages_in}
+use Rattle.collecting.specs.Stages.{Measures, MeasuresOn, measured_by, measured_one, pages_in, preparing, preparings}
 use Rattle.collecting.proofs.Collections.{none, and_then}
 
 -- ---- marks
@@ -177,40 +178,50 @@ pub listed_some : (n : ℕ) (ns : List ℕ) (b : Bool) → b ≡ (n == 0) → b 
 listed_some n ns b told is same e =
     true≢false (sym (eq-eqb n 0 (same ∙ ap length e)) ∙ sym told ∙ is)
 
-pub chooses_none : (budget : ℕ) (p m q : PartsState) (h : HeapState) (ns : List ℕ) → IsChosen h budget p.found ns
-    → m.chosen ≡ ns → ns ≡ [] → q ≡ at_stage stages.Mark m.chosen → ChoosesAll budget p h (Ok true) q h
-chooses_none budget p m q h ns k same is new =
-    ([], subst (IsChosen h budget p.found) is k, (new ∙ ap (at_stage stages.Mark) (same ∙ is), refl))
+pub chooses_none : (p m q : PartsState) (h : HeapState) (ns : List ℕ) → IsChosen h p.found ns → m.chosen ≡ ns → ns ≡ []
+    → q ≡ at_stage stages.Mark m.chosen → ChoosesAll p h (Ok true) q h
+chooses_none p m q h ns k same is new =
+    ([], subst (IsChosen h p.found) is k, (new ∙ ap (at_stage stages.Mark) (same ∙ is), refl))
 
 some_on : (ns : List ℕ) (h : HeapState) (r : Result Bool Refusal) (q : PartsState) (g : HeapState) → (ns ≡ [] → ⊥)
     → ProtectsSome ns h r q g → ProtectsOn ns h r q g
 some_on [] h r q g some k = absurd (some refl)
 some_on (n ∷ ns) h r q g some k = k
 
-pub chooses_some : (budget : ℕ) (p q : PartsState) (h g : HeapState) (ns : List ℕ) (r : Result Bool Refusal)
-    → IsChosen h budget p.found ns → (ns ≡ [] → ⊥) → ProtectsSome ns h r q g → ChoosesAll budget p h r q g
-chooses_some budget p q h g ns (Ok b) c some k = (ns, c, some_on ns h (Ok b) q g some k)
-chooses_some budget p q h g ns (Err e) c some k = inr (ns, c, some_on ns h (Err e) q g some k)
+pub chooses_some : (p q : PartsState) (h g : HeapState) (ns : List ℕ) (r : Result Bool Refusal) → IsChosen h p.found ns
+    → (ns ≡ [] → ⊥) → ProtectsSome ns h r q g → ChoosesAll p h r q g
+chooses_some p q h g ns (Ok b) c some k = (ns, c, some_on ns h (Ok b) q g some k)
+chooses_some p q h g ns (Err e) c some k = inr (ns, c, some_on ns h (Err e) q g some k)
 
-pub chooses_lacks : (budget : ℕ) (p q : PartsState) (h : HeapState) → ChoosesAll budget p h (Err refusals.Memory) q h
-chooses_lacks budget p q h = inl (refl, refl)
+pub chooses_lacks : (p q : PartsState) (h : HeapState) → ChoosesAll p h (Err refusals.Memory) q h
+chooses_lacks p q h = inl (refl, refl)
 
-pub measures_then : (percent budget : ℕ) (p m q : PartsState) (h g : HeapState) (r : Result Bool Refusal)
-    → Measures h percent (pages_in budget) p true m → ChoosesAll budget m h r q g → ChoosesOn percent budget p h r q g
-measures_then percent budget p m q h g (Ok b) a k = inr (m, a, k)
-measures_then percent budget p m q h g (Err e) a k = inr (m, a, k)
+pub measures_end : (percent budget : ℕ) (p m q : PartsState) (h : HeapState)
+    → Measures h percent (pages_in budget h.config.words) p true m → q ≡ preparing h m → MeasuresOn percent budget p h (Ok false) q h
+measures_end percent budget p m q h a is = (refl, refl, inr (m, a, is))
 
 pub measures_on : (percent budget : ℕ) (p q : PartsState) (h : HeapState)
-    → Measures h percent (pages_in budget) p false q → ChoosesOn percent budget p h (Ok false) q h
-measures_on percent budget p q h a = inl (refl, refl, a)
+    → Measures h percent (pages_in budget h.config.words) p false q → MeasuresOn percent budget p h (Ok false) q h
+measures_on percent budget p q h a = (refl, refl, inl a)
 
-pub measures_lacks : (percent budget : ℕ) (p q : PartsState) (h : HeapState)
-    → ChoosesOn percent budget p h (Err refusals.Memory) q h
-measures_lacks percent budget p q h = inl (refl, refl)
+-- ---- the preparing of frames
+
+pub prepares_then : (budget : ℕ) (p q : PartsState) (h m g : HeapState) (b : Bool) (r : Result Bool Refusal)
+    → b ≡ nat_le (preparings budget p m) p.next → m ≡ h → b ≡ true → ChoosesAll p h r q g → PreparesOn budget p h r q g
+prepares_then budget p q h m g b r told same is k =
+    subst (λ (x : Bool). PreparesIf x p h r q g)
+    (sym is ∙ told ∙ ap (λ (x : HeapState). nat_le (preparings budget p x) p.next) same) k
+
+pub prepares_else : (budget : ℕ) (p q : PartsState) (h m g : HeapState) (b : Bool) (r : Result Bool Refusal)
+    → b ≡ nat_le (preparings budget p m) p.next → m ≡ h → b ≡ false → PreparesSome p h r q g
+    → PreparesOn budget p h r q g
+prepares_else budget p q h m g b r told same is k =
+    subst (λ (x : Bool). PreparesIf x p h r q g)
+    (sym is ∙ told ∙ ap (λ (x : HeapState). nat_le (preparings budget p x) p.next) same) k
 
 -- ---- measuring
 
--- n pages were measured, at most so many
+-- n pages were measured, at most `most`
 pub record MeasuredTo (h : HeapState) (percent most n : ℕ) (p q : PartsState) : Type 0 where
   pub few : n ≤ most
   pub is : q ≡ measured_by h percent n p
@@ -263,20 +274,25 @@ on_stage [] h (Ok b) q g k = subst (Collects h) (sym k.1) (none h)
 on_stage [] h (Err e) q g k = absurd k
 on_stage (n ∷ ns) h r q g k = some_stage (n ∷ ns) h r q g k
 
-all_stage : (budget : ℕ) (p : PartsState) (h : HeapState) (r : Result Bool Refusal) (q : PartsState) (g : HeapState)
-    → ChoosesAll budget p h r q g → EndsStage h r g
-all_stage budget p h (Ok b) q g k = on_stage k.0 h (Ok b) q g k.2
-all_stage budget p h (Err e) q g (inl k) = inr k
-all_stage budget p h (Err e) q g (inr k) = on_stage k.0 h (Err e) q g k.2
+all_stage : (p : PartsState) (h : HeapState) (r : Result Bool Refusal) (q : PartsState) (g : HeapState)
+    → ChoosesAll p h r q g → EndsStage h r g
+all_stage p h (Ok b) q g k = on_stage k.0 h (Ok b) q g k.2
+all_stage p h (Err e) q g (inl k) = inr k
+all_stage p h (Err e) q g (inr k) = on_stage k.0 h (Err e) q g k.2
+
+if_stage : (b : Bool) (p : PartsState) (h : HeapState) (r : Result Bool Refusal) (q : PartsState) (g : HeapState)
+    → PreparesIf b p h r q g → EndsStage h r g
+if_stage true p h r q g k = all_stage p h r q g k
+if_stage false p h (Ok b) q g k = subst (Collects h) (sym k.2) (none h)
+if_stage false p h (Err e) q g k = inr k.1
 
 stage_in : (s : Stage) (percent budget : ℕ) (p : PartsState) (h : HeapState) (r : Result Bool Refusal) (q : PartsState)
     (g : HeapState) → GoesOnIn s percent budget p h r q g → EndsStage h r g
 stage_in stages.Mark percent budget p h (Ok b) q g k = k.1
 stage_in stages.Mark percent budget p h (Err e) q g k = inl k.1
-stage_in stages.Choose percent budget p h (Ok b) q g (inl k) = subst (Collects h) (sym k.1) (none h)
-stage_in stages.Choose percent budget p h (Ok b) q g (inr k) = all_stage _ k.0 h (Ok b) q g k.2
-stage_in stages.Choose percent budget p h (Err e) q g (inl k) = inr k
-stage_in stages.Choose percent budget p h (Err e) q g (inr k) = all_stage _ k.0 h (Err e) q g k.2
+stage_in stages.Choose percent budget p h (Ok b) q g k = subst (Collects h) (sym k.1) (none h)
+stage_in stages.Choose percent budget p h (Err e) q g k = inr k
+stage_in stages.Prepare percent budget p h r q g k = if_stage (nat_le (preparings budget p h) p.next) p h r q g k
 stage_in stages.Empty percent budget p h (Ok b) q g (inl k) = subst (Collects h) (sym k.2) (none h)
 stage_in stages.Empty percent budget p h (Ok b) q g (inr k) =
     let m = k.2.2.0 in and_then h m g (crosses_goes h m k.2.2.1) k.2.2.2.goes

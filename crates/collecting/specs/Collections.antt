@@ -1,4 +1,4 @@
--- Whole collections.
+-- Complete collections.
 use Rattle.std.specs.Prelude.{◌≡◌, ◌⊎◌, ◌||◌, ℕ, Bool, true, false, List, [], ◌∷◌, length, Result, Ok, Err}
 use Rattle.std.specs.List.{list_any}
 use Rattle.choosing.specs.Choices.{IsChoice}
@@ -25,16 +25,16 @@ Collects h g = Goes (IsCollecting WORKER) h g
 abbrev pub has_from : List Page → Bool
 has_from pages = list_any (λ (p : Page). is_from p.state) pages
 
--- what an earlier collection had left has ended: no checkpoint is open, and no page is being emptied
+-- the rest of an earlier collection has ended: no checkpoint is open, and no page is being emptied
 pub record IsSettled (h : HeapState) : Type 0 where
   pub phase : is_crossing h.phase ≡ false
   pub pages : has_from h.store.pages ≡ false
 
--- steps of a collection have ended it
+-- steps of a collection have ended it so
 abbrev pub Settles : HeapState → HeapState → Type 0
 Settles h g = Collects h g × IsSettled g
 
--- page n isn't being emptied, no page is that wasn't, and the collector is in the phase that it was in
+-- page n isn't being emptied, nor is a page that wasn't before, and the collector is in the same phase
 pub record LeftPage (h : HeapState) (n : ℕ) (g : HeapState) : Type 0 where
   pub goes : Collects h g
   pub page : is_from (state_at g.store n) ≡ false
@@ -47,40 +47,40 @@ pub record IsLeft (h : HeapState) (n : ℕ) : Type 0 where
   pub phase : is_crossing h.phase ≡ false
   pub from : is_from (state_at h.store n) ≡ true
 
--- the emptying of such a page stopped so
+-- the emptying of such a page failed with e
 abbrev pub StopsLeft : HeapState → ℕ → Refusal → HeapState → Type 0
 StopsLeft h n e g = IsLeft h n × StopsPage WORKER h n e g
 
--- what came of a page that an earlier collection may have left
+-- how the emptying of a page ended that an earlier collection may have left
 abbrev pub EndsLeft : HeapState → ℕ → Result Unit Refusal → HeapState → Type 0
 EndsLeft h n (Ok u) g = LeftPage h n g
 EndsLeft h n (Err e) g = Collects h g × StopsLeft h n e g
 
--- what came of all such pages
+-- how the emptying of all such pages ended
 abbrev pub EndsLeftPages : HeapState → Result Unit Refusal → HeapState → Type 0
 EndsLeftPages h (Ok u) g = Settles h g
 EndsLeftPages h (Err e) g = Collects h g × ((m : HeapState) × (n : ℕ) × Collects h m × StopsLeft m n e g)
 
--- what an earlier collection has left stopped so: while threads cross, or at a page
+-- the rest of an earlier collection failed with e: while threads cross, or at a page
 abbrev pub StopsSettling : HeapState → Refusal → HeapState → Type 0
 StopsSettling h e g =
     StopsCrossing WORKER h e g ⊎ ((m : HeapState) × (n : ℕ) × Collects h m × StopsLeft m n e g)
 
--- what came of all that an earlier collection has left
+-- how the rest of an earlier collection ended
 abbrev pub EndsSettling : HeapState → Result Unit Refusal → HeapState → Type 0
 EndsSettling h (Ok u) g = Settles h g
 EndsSettling h (Err e) g = Collects h g × StopsSettling h e g
 
--- how the mark ended that is due: what is left of the one that runs, else a whole one
+-- how the mark ended that is due: the rest of the one that runs, else a complete one
 abbrev pub EndsDue : Bool → HeapState → Result ℕ Refusal → HeapState → Type 0
 EndsDue true h result g = EndsRest WORKER h result g
 EndsDue false h result g = EndsMark WORKER h result g
 
--- the same, by what phase the heap is in
+-- EndsDue by the phase of the heap
 abbrev pub EndsDueMark : HeapState → Result ℕ Refusal → HeapState → Type 0
 EndsDueMark h result g = EndsDue (is_marking h.phase) h result g
 
--- chosen pages were emptied; where none was chosen, nothing was done
+-- chosen pages were emptied; if none was chosen, nothing was done
 abbrev pub EmptiesChosen : HeapState → List ℕ → HeapState → Type 0
 EmptiesChosen h [] g = g ≡ h
 EmptiesChosen h (n ∷ ns) g = (m : HeapState) × Protects WORKER h (n ∷ ns) m × PagesFreed WORKER m (n ∷ ns) g
@@ -90,27 +90,28 @@ abbrev pub EndsChosen : HeapState → List ℕ → Result ℕ Refusal → HeapSt
 EndsChosen h ns (Ok k) g = Collects h g × (k ≡ length ns) × EmptiesChosen h ns g
 EndsChosen h ns (Err e) g = Collects h g × EndsEmptying WORKER h ns (Err e) g
 
--- pages were chosen of heap h, so many, and emptied
+-- k pages of heap h were chosen, and emptied
 abbrev pub EmptiesSparse : ℕ → HeapState → ℕ → HeapState → Type 0
 EmptiesSparse percent h k g = (ns : List ℕ) × IsChoice h percent ns × (k ≡ length ns) × EmptiesChosen h ns g
 
--- memory for the choice was refused, and nothing was done; or the emptying of the chosen pages stopped so
+-- there was no memory for the choice of pages, and nothing was done; or the emptying of the chosen pages failed with
+-- e
 abbrev pub StopsSparse : ℕ → HeapState → Refusal → HeapState → Type 0
 StopsSparse percent h e g =
     ((e ≡ refusals.Memory) × (g ≡ h))
     ⊎ ((ns : List ℕ) × IsChoice h percent ns × EndsEmptying WORKER h ns (Err e) g)
 
--- what came of the choice of pages
+-- how the choice and the emptying of pages ended
 abbrev pub EndsSparse : ℕ → HeapState → Result ℕ Refusal → HeapState → Type 0
 EndsSparse percent h (Ok k) g = Collects h g × EmptiesSparse percent h k g
 EndsSparse percent h (Err e) g = Collects h g × StopsSparse percent h e g
 
--- the same, with how many objects live
+-- EndsSparse with the number of live objects
 abbrev pub EndsBehind : ℕ → ℕ → HeapState → Result Collected Refusal → HeapState → Type 0
 EndsBehind percent live h (Ok r) g = (r.live ≡ live) × Collects h g × EmptiesSparse percent h r.emptied g
 EndsBehind percent live h (Err e) g = Collects h g × StopsSparse percent h e g
 
--- a mark stopped so, or what comes behind it
+-- a mark failed with e, or the choice or the emptying of pages after it did
 abbrev pub StopsCycle : ℕ → HeapState → Refusal → HeapState → Type 0
 StopsCycle percent h e g =
     EndsDueMark h (Err e) g ⊎ ((m : HeapState) × (live : ℕ) × EndsDueMark h (Ok live) m × StopsSparse percent m e g)
@@ -119,13 +120,13 @@ StopsCycle percent h e g =
 abbrev pub EndsWhole : ℕ → HeapState → Collected → HeapState → Type 0
 EndsWhole percent h r g = (m : HeapState) × EndsDueMark h (Ok r.live) m × EmptiesSparse percent m r.emptied g
 
--- what came of a mark, and of what comes behind it
+-- how a mark ended, and the choice and the emptying of pages after it
 abbrev pub EndsCycle : ℕ → HeapState → Result Collected Refusal → HeapState → Type 0
 EndsCycle percent h (Ok r) g = Collects h g × EndsWhole percent h r g
 EndsCycle percent h (Err e) g = Collects h g × StopsCycle percent h e g
 
--- how a collection ended. What an earlier one had left was ended first; then a mark, and pages were emptied; or one of
--- these stopped so
+-- how a collection ended. First the rest of an earlier one was finished; then a mark, and pages were emptied; or one
+-- of these failed with e
 abbrev pub EndsCollecting : ℕ → HeapState → Result Collected Refusal → HeapState → Type 0
 EndsCollecting percent h (Ok r) g = (m : HeapState) × Settles h m × EndsWhole percent m r g
 EndsCollecting percent h (Err e) g =
@@ -135,31 +136,31 @@ EndsCollecting percent h (Err e) g =
 abbrev pub CollectsWhole : ℕ → HeapState → Result Collected Refusal → HeapState → Type 0
 CollectsWhole percent h result g = Collects h g × EndsCollecting percent h result g
 
--- what an earlier collection had left was ended, and then a mark has ended, which found so many objects
+-- the rest of an earlier collection was finished, and then a mark has ended, which found `live` objects
 abbrev pub HasMarked : HeapState → ℕ → HeapState → Type 0
 HasMarked h live g = (m : HeapState) × Settles h m × EndsDueMark m (Ok live) g
 
--- the same; or one of these stopped so
+-- HasMarked with the steps; or one of these failed with e
 abbrev pub MarksWhole : HeapState → Result ℕ Refusal → HeapState → Type 0
 MarksWhole h (Ok live) g = Collects h g × HasMarked h live g
 MarksWhole h (Err e) g = Collects h g × ((percent : ℕ) → EndsCollecting percent h (Err e) g)
 
--- it says that there are too few frames or pages
+-- the error is that there are too few frames or pages
 abbrev pub lacks_room : Refusal → Bool
 lacks_room (refusals.NoFrames need free) = true
 lacks_room refusals.NoPages = true
 lacks_room _ = false
 
--- it says that the thread has a buffer already
+-- the error is that the thread has a buffer already
 abbrev pub has_buffer : Refusal → Bool
 has_buffer refusals.HasBuffer = true
 has_buffer _ = false
 
--- it says one of these
+-- the error is one of these
 abbrev pub is_of_rooms : Refusal → Bool
 is_of_rooms e = lacks_room e || has_buffer e
 
--- a refusal that says something else
+-- any other error, or none
 abbrev pub IsNotRoom : {A : Type 0} → Result A Refusal → Type 0
 IsNotRoom (Ok x) = Unit {0}
 IsNotRoom (Err e) = is_of_rooms e ≡ false

@@ -1,4 +1,4 @@
--- Few kinds of refusal.
+-- A few kinds of errors.
 use Rattle.std.specs.Prelude.{Option, Some, None}
 use Rattle.model.specs.declared.steps.Refusal.{Refusal}
 use Rattle.model.specs.declared.steps.Refusal.TheVariants as refusals
@@ -10,7 +10,7 @@ use Rattle.collecting.specs.declared.numbers.Number.{Number}
 use Rattle.collecting.specs.declared.numbers.Number.TheVariants as numbers
 use Rattle.collecting.specs.Numbers.{wrong_number}
 
--- the kind of a refusal
+-- the kind of an error
 abbrev pub fault_of : Refusal → CallFault
 fault_of refusals.Null = faults.Null
 fault_of refusals.NoActor = faults.Index
@@ -22,12 +22,12 @@ fault_of refusals.Memory = faults.Memory
 fault_of refusals.Births = faults.Births
 fault_of other = faults.Held other
 
--- the kind of a number that names nothing, if it is known which
+-- the kind of error of a number that names nothing, if it is known which
 abbrev pub number_fault : Option Number → CallFault
 number_fault None = faults.Index
 number_fault (Some n) = faults.Wrong n
 
--- the kind of a refusal of a thread's step, with the number that names nothing
+-- the kind of an error of a thread's step, with the number that names nothing
 abbrev pub fault_in : HeapState → Step → Refusal → CallFault
 fault_in h s refusals.NoActor = faults.Wrong numbers.Thread
 fault_in h s refusals.BadIndex = number_fault (wrong_number h s)

@@ -7,6 +7,7 @@ pub mod Faults
 pub mod Objects
 pub mod Parts
 pub mod Stages
+pub mod Low
 pub mod Pacing
 pub mod Targets
 pub mod Counting

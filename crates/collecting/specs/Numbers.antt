@@ -11,7 +11,7 @@ use Rattle.collecting.specs.declared.numbers.Number.TheVariants as numbers
 abbrev pub register_or : HeapState → ℕ → ℕ → Number → Number
 register_or h one two other = if no_register h one || no_register h two then numbers.Register else other
 
--- which number of a thread's step names nothing, if the step is refused as BadIndex
+-- which number of a thread's step names nothing, if the step fails with BadIndex
 abbrev pub wrong_number : HeapState → Step → Option Number
 wrong_number h (steps.Take words) = Some numbers.Words
 wrong_number h (steps.New target layout) = Some (register_or h target target numbers.Layout)

@@ -1,4 +1,4 @@
--- What a register names.
+-- The objects that registers name.
 use Rattle.std.specs.Prelude.{ℕ, slice_get, Result, Ok}
 use Rattle.layout.specs.Objects.{birth_of, layout_of}
 use Rattle.model.specs.declared.steps.Refusal.{Refusal}

@@ -23,50 +23,50 @@ pub record HasEnded (h : HeapState) : Type 0 where
   pub pages : has_from h.store.pages ≡ false
   pub copied : uncopied_count h.sides ≡ 0
 
--- at heap m, what comes next of a collection is refused so, and leaves heap g
+-- at heap m, the next operation of a collection fails with e, and leaves heap g
 pub data StopsAt (m : HeapState) (e : Refusal) (g : HeapState) : Type 0 where
-  -- a mark may start, and StartMark is refused
+  -- a mark may start, and StartMark is rejected
   Beginning : may_start_mark m.phase ≡ true → outcome m (Worker WORKER) steps.StartMark ≡ Err e → g ≡ m
       → StopsAt m e g
   -- crossings were done, and a thread is left that can't cross
   Crossing : StopsCrossing WORKER m e g → StopsAt m e g
-  -- a mark runs that all threads have crossed; scans were done, and the next one is refused
+  -- a mark runs that all threads have crossed; scans were done, and the next one is rejected
   Scanning : m.phase ≡ phases.Scanning → Goes (IsScan WORKER) m g → EndsScan WORKER (Err e) g → StopsAt m e g
-  -- such a mark runs, nothing is left to be scanned, and EndMark is refused
+  -- such a mark runs, nothing is left to scan, and EndMark is rejected
   Ending : m.phase ≡ phases.Scanning → next_drain m WORKER ≡ None → outcome m (Worker WORKER) steps.EndMark ≡ Err e
       → g ≡ m → StopsAt m e g
-  -- page n is being emptied, no checkpoint is open, and CopyPage or Release is refused
+  -- page n is being emptied, no checkpoint is open, and CopyPage or Release is rejected
   Emptying : (n : ℕ) → StopsLeft m n e g → StopsAt m e g
 
--- steps of a collection were done, and the next one is refused so
+-- steps of a collection were done, and the next one fails with e
 abbrev pub StopsPart : HeapState → Refusal → HeapState → Type 0
 StopsPart h e g = (m : HeapState) × Collects h m × StopsAt m e g
 
--- the same, with all steps that were done
+-- StopsPart, with all steps that were done
 abbrev pub Stops : HeapState → Refusal → HeapState → Type 0
 Stops h e g = Collects h g × StopsPart h e g
 
--- how a portion of a part ended
+-- how an operation of a part ended
 abbrev pub EndsPortion : {A : Type 0} → HeapState → Result A Refusal → HeapState → Type 0
 EndsPortion h (Ok x) g = Collects h g
 EndsPortion h (Err e) g = Stops h e g
 
--- memory for a list of pages, for their plan, or for a fresh page was refused, and nothing was done
+-- there was no memory for a list of pages, for their plan, or for a fresh page, and nothing was done
 abbrev pub LacksMemory : HeapState → Refusal → HeapState → Type 0
 LacksMemory h e g = (e ≡ refusals.Memory) × (g ≡ h)
 
--- how a part ended: true where the collection has ended
+-- how a part ended: true if the collection has ended
 abbrev pub EndsPart : HeapState → Result Bool Refusal → HeapState → Type 0
 EndsPart h (Ok true) g = Collects h g × HasEnded g
 EndsPart h (Ok false) g = Collects h g
 EndsPart h (Err e) g = Stops h e g ⊎ LacksMemory h e g
 
--- the same of what a part does before registers are corrected
+-- how a part ended before registers are corrected
 abbrev pub EndsStage : HeapState → Result Bool Refusal → HeapState → Type 0
 EndsStage h (Ok b) g = Collects h g
 EndsStage h (Err e) g = Stops h e g ⊎ LacksMemory h e g
 
--- memory was refused
+-- the error is out of memory
 abbrev pub is_memory : Refusal → Bool
 is_memory refusals.Memory = true
 is_memory _ = false
@@ -82,7 +82,7 @@ EndsProtecting h ns (Ok u) g = Protects WORKER h ns g
 EndsProtecting h ns (Err e) g =
     Collects h g × DoesStep h (steps.Protect ns) (Err e) g (outcome h (Worker WORKER) (steps.Protect ns))
 
--- how a portion of the scans ended: true where nothing is left that no other worker has
+-- how a quantum of the scans ended: true if nothing is left but what other workers have
 abbrev pub EndsScanning : HeapState → Result Bool Refusal → HeapState → Type 0
 EndsScanning h (Ok true) g = Collects h g × (next_drain g WORKER ≡ None) × (g.phase ≡ h.phase)
 EndsScanning h (Ok false) g = Collects h g

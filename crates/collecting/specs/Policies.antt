@@ -12,7 +12,7 @@ policy_fault c p =
     (if nat_lt c.frames p.free then Some faults.Free else
     (if nat_lt 100 p.percent then Some faults.Percent else None))
 
--- that none is, else that fault
+-- succeeds if there is no fault, else fails with it
 abbrev pub failed : Option PolicyFault → Result Unit PolicyFault
 failed None = Ok tt
 failed (Some f) = Err f

@@ -1,4 +1,4 @@
--- Buffers and objects, for which the heap is collected where frames run low.
+-- Buffers and objects, for which the heap is collected if frames run low.
 use Rattle.std.specs.Prelude.{◌≡◌, ◌⊎◌, ℕ, true, false, length, Some, Result, Ok, Err}
 use Rattle.model.specs.declared.records.Buffer.{Buffer}
 use Rattle.model.specs.declared.steps.Actor.{Actor}
@@ -29,7 +29,8 @@ IsRefill t actor step = IsCollecting WORKER actor step
 abbrev pub Refills : ℕ → HeapState → HeapState → Type 0
 Refills t h g = Goes (IsRefill t) h g
 
--- among such steps a mark has begun, and ended: what it found dead is free, and so are the numbers of emptied pages
+-- among such steps a mark has begun, and ended: what it found dead can be freed, and the numbers of emptied pages
+-- are free
 pub record HasMarkedSince (t : ℕ) (h g : HeapState) : Type 0 where
   pub before : HeapState
   pub marked : HeapState
@@ -38,7 +39,7 @@ pub record HasMarkedSince (t : ℕ) (h g : HeapState) : Type 0 where
   pub marks : HasMarked before live marked
   pub to : Refills t marked g
 
--- among such steps were a whole collection, and then a mark: nothing more can be freed
+-- among such steps were a complete collection, and then a mark: nothing more can be freed
 pub record HasTriedAll (t percent : ℕ) (h g : HeapState) : Type 0 where
   pub before : HeapState
   pub behind : HeapState
@@ -47,26 +48,26 @@ pub record HasTriedAll (t percent : ℕ) (h g : HeapState) : Type 0 where
   pub collects : EndsCollecting percent before (Ok found) behind
   pub marks : HasMarkedSince t behind g
 
--- nothing is known of what was done before
+-- nothing is known of the steps before
 abbrev pub IsAny : HeapState → HeapState → Type 0
 IsAny h g = Unit {0}
 
--- Take is refused so as the heap stands; never because the thread has a buffer, and for want of room only if Q holds of
--- what was done before
+-- Take is rejected with e on heap g; never because the thread has a buffer, and for lack of space only if Q holds of
+-- the steps before
 abbrev pub RefusesTake : (HeapState → HeapState → Type 0) → ℕ → ℕ → HeapState → Refusal → HeapState → Type 0
 RefusesTake Q t n h e g =
     (outcome g (Thread t) (steps.Take n) ≡ Err e) × (has_buffer e ≡ false) × (lacks_room e ≡ true → Q h g)
 
--- such steps were done, and memory for a fresh page of thread t was refused then: nothing more was done
+-- such steps were done, and then there was no memory for a fresh page of thread t: nothing more was done
 abbrev pub LacksPage : ℕ → HeapState → Refusal → HeapState → Type 0
 LacksPage t h e g = (m : HeapState) × Refills t h m × LacksMemory m e g
 
--- a collection that was begun for thread t has ended so
+-- a collection that was begun for thread t has failed with e
 abbrev pub StopsCollecting : ℕ → ℕ → HeapState → Refusal → HeapState → Type 0
 StopsCollecting t percent h e g = (m : HeapState) × Refills t h m × EndsCollecting percent m (Err e) g
 
--- how it ended that thread t was to get n words. It has them, by a Take as the last step; or Take is refused, or memory
--- for a fresh page was, or a collection has stopped
+-- how a request of n words for thread t ended. It has them, by a Take as the last step; or Take is rejected, or
+-- there was no memory for a fresh page, or a collection has failed
 abbrev pub EndsTaking : (HeapState → HeapState → Type 0) → ℕ → ℕ → ℕ → HeapState → Result Buffer Refusal → HeapState
     → Type 0
 EndsTaking Q t n percent h (Ok b) g =
@@ -74,26 +75,26 @@ EndsTaking Q t n percent h (Ok b) g =
 EndsTaking Q t n percent h (Err e) g =
     RefusesTake Q t n h e g ⊎ (LacksPage t h e g ⊎ StopsCollecting t percent h e g)
 
--- the same, where there is no room for n words only if a collection and a mark were done in vain
+-- EndsTaking, where there is no space for n words only if a collection and a mark were done in vain
 abbrev pub EndsRefill : ℕ → ℕ → ℕ → HeapState → Result Buffer Refusal → HeapState → Type 0
 EndsRefill t n percent h r g = EndsTaking (HasTriedAll t percent) t n percent h r g
 
--- the steps of it, and how it ended
+-- the steps of such a request, and how it ended
 abbrev pub RefillsBy : (HeapState → HeapState → Type 0) → ℕ → ℕ → ℕ → HeapState → Result Buffer Refusal → HeapState
     → Type 0
 RefillsBy Q t n percent h r g = Refills t h g × EndsTaking Q t n percent h r g
 
--- the same of all of it
+-- the steps of a request, and how it ended as by EndsRefill
 abbrev pub RefillsWhole : ℕ → ℕ → ℕ → HeapState → Result Buffer Refusal → HeapState → Type 0
 RefillsWhole t n percent h r g = RefillsBy (HasTriedAll t percent) t n percent h r g
 
--- a refusal that isn't for a buffer that the thread has
+-- any error but that the thread has a buffer, or none
 abbrev pub IsNotHeld : {A : Type 0} → Result A Refusal → Type 0
 IsNotHeld (Ok x) = Unit {0}
 IsNotHeld (Err e) = has_buffer e ≡ false
 
--- how it ended that thread t was to make an object. It is made, by a New as the last step; or New is refused so as the
--- heap stands, or the thread got no words
+-- how a request of an object for thread t ended. It is made, by a New as the last step; or New is rejected with e on
+-- heap g, or the thread got no words
 abbrev pub EndsMaking : ℕ → ℕ → ℕ → ℕ → ℕ → HeapState → Result ℕ Refusal → HeapState → Type 0
 EndsMaking t n percent target layout h (Ok b) g =
     (m : HeapState) × Refills t h m × Steps (Thread t) (steps.New target layout) (answers.Birth b) m g
@@ -101,8 +102,8 @@ EndsMaking t n percent target layout h (Err e) g =
     Refills t h g
     × ((outcome g (Thread t) (steps.New target layout) ≡ Err e) ⊎ EndsRefill t n percent h (Err e) g)
 
--- where heap h stood for a plain heap, g stands for that with the new object in its register; or, where none was made,
--- for the same
+-- if heap h represents a reference model, g represents that with the new object in its register; or, if none was
+-- made, the same one
 abbrev pub MakingStands : ℕ → ℕ → ℕ → HeapState → Result ℕ Refusal → HeapState → Type 0
 MakingStands t target layout h (Ok b) g = (p p0 : PlainHeap) → Holds h p p0 → (q0 : PlainHeap)
     × Holds g (plain_step h.config.layouts p (Thread t) (steps.New target layout)) q0 × (b ≡ length p.objects)

@@ -1,14 +1,15 @@
--- How a collection in parts goes on, from one part to the next.
-use Rattle.std.specs.Prelude.{◌≡◌, ◌⊎◌, ◌≤◌, ℕ, zero, suc, ◌+◌, ◌-◌, ◌*◌, ◌/◌, ◌^◌, min, Bool, true, false}
-use Rattle.std.specs.Prelude.{List, [], ◌∷◌, ◌++◌, length, map, take, get_or, nat_lt, position, unwrap_or}
+-- How a collection in parts continues, from one part to the next.
+use Rattle.std.specs.Prelude.{◌≡◌, ◌⊎◌, ◌≤◌, ℕ, zero, suc, ◌+◌, ◌-◌, ◌*◌, ◌/◌, ◌^◌, max, min, Bool, true, false}
+use Rattle.std.specs.Prelude.{List, [], ◌∷◌, ◌++◌, length, map, take, get_or, nat_le, nat_lt, position, unwrap_or}
 use Rattle.std.specs.Prelude.{Option, Some, None, Result, Ok, Err, IsPermutation, slice_get}
+use Rattle.std.specs.List.{sum_by}
 use Rattle.choosing.specs.Choices.{IsLongest, IsRising, has_room_for, measured_if, page_of}
 use Rattle.model.specs.declared.steps.Actor.TheVariants.{Worker}
 use Rattle.model.specs.declared.steps.Step.TheVariants as steps
 use Rattle.model.specs.declared.steps.Answer.{Answer}
 use Rattle.model.specs.declared.steps.Refusal.{Refusal}
 use Rattle.model.specs.Outcome.{outcome}
-use Rattle.model.specs.Protections.{no_page_in}
+use Rattle.model.specs.Protections.{free_count, no_page_in, unused_count}
 use Rattle.model.specs.States.{HeapState}
 use Rattle.managed.specs.Collecting.{Crosses, StopsCrossing}
 use Rattle.managed.specs.Emptying.{Protects}
@@ -18,33 +19,32 @@ use Rattle.collecting.specs.declared.parts.Stage.TheVariants as stages
 use Rattle.collecting.specs.Collections.{WORKER, Collects, LeftPage}
 use Rattle.collecting.specs.Parts.{LacksMemory, Stops, is_memory}
 
--- how far a collection in parts has come: its stage; the sparse pages found so far, each behind its live words; the
--- pages that were chosen to be emptied; and how many pages were measured, or how many of the chosen ones were emptied
+-- how far a collection in parts has come: its stage; the sparse pages found so far, each after its live words; the
+-- pages that were chosen to be emptied; how many pages were measured, how many parts have prepared frames, or how many
+-- of the chosen pages were emptied; and how many frames are to be prepared
 pub record PartsState : Type 0 where
   pub stage : Stage
   pub found : List (ℕ × ℕ)
   pub chosen : List ℕ
   pub next : ℕ
+  pub frames : ℕ
 
 -- before the first part of a collection
 abbrev pub first_parts : PartsState
-first_parts = record { stage = stages.Mark; found = []; chosen = []; next = 0 }
+first_parts = record { stage = stages.Mark; found = []; chosen = []; next = 0; frames = 0 }
 
 -- at the beginning of a stage, with these pages chosen
 abbrev pub at_stage : Stage → List ℕ → PartsState
-at_stage s chosen = record { stage = s; found = []; chosen = chosen; next = 0 }
+at_stage s chosen = record { stage = s; found = []; chosen = chosen; next = 0; frames = 0 }
 
--- how many pages a part with a budget of so many objects measures or chooses
-abbrev pub pages_in : ℕ → ℕ
-pages_in budget = budget / 64 + 1
-
--- the most pages without live objects that such a part protects, by the words of a page
-abbrev pub dead_in : ℕ → ℕ → ℕ
-dead_in budget words = budget * 4096 / words + 1
+-- how many pages of `words` words a part with this budget measures: as many as have 64 words for each object of the
+-- budget, and one more
+abbrev pub pages_in : ℕ → ℕ → ℕ
+pages_in budget words = budget * 64 / max words 1 + 1
 
 -- ---- which pages are chosen
 
--- what is there, as a list
+-- an option as a list
 abbrev pub as_list : Option (ℕ × ℕ) → List (ℕ × ℕ)
 as_list None = []
 as_list (Some x) = x ∷ []
@@ -53,23 +53,23 @@ as_list (Some x) = x ∷ []
 abbrev pub entered : ℕ × ℕ → ℕ → PartsState → PartsState
 entered x n p = record p { found = p.found ++ x ∷ []; next = n }
 
--- behind the measuring of one more page, which is found if it is sparse
+-- after the measuring of one more page, which is found if it is sparse
 abbrev pub measured_one : HeapState → ℕ → PartsState → PartsState
 measured_one h percent p =
     record p { found = p.found ++ as_list (measured_if h percent (p.next + 1)); next = p.next + 1 }
 
--- and of k pages
+-- after the measuring of k more pages
 abbrev pub measured_by : HeapState → ℕ → ℕ → PartsState → PartsState
 measured_by h percent zero p = p
 measured_by h percent (suc k) p = measured_one h percent (measured_by h percent k p)
 
--- at most so many pages were measured: true where all of the heap are, false where so many were
+-- at most `most` pages were measured: true if all of the heap are, false if `most` were
 abbrev pub Measures : HeapState → ℕ → ℕ → PartsState → Bool → PartsState → Type 0
 Measures h percent most p true q =
     (k : ℕ) × (k ≤ most) × (q ≡ measured_by h percent k p) × (h.store.count ≤ q.next)
 Measures h percent most p false q = q ≡ measured_by h percent most p
 
--- the longest beginning of pages for which there is room, or up to one that the heap doesn't have
+-- the longest prefix of pages for which there is space, or the prefix up to one that the heap doesn't have
 abbrev pub IsFitting : HeapState → List ℕ → List ℕ → Type 0
 IsFitting h ns xs =
     IsLongest h ns xs
@@ -79,120 +79,165 @@ IsFitting h ns xs =
 abbrev pub has_live : ℕ × ℕ → Bool
 has_live p = nat_lt 0 p.0
 
--- how many pages come first that have no live object
+-- how many of the first pages have no live object, up to the first that has one
 abbrev pub dead_count : List (ℕ × ℕ) → ℕ
 dead_count ps = unwrap_or (position has_live ps) (length ps)
 
--- how many pages a budget allows of these, which rise by live words: those without live objects, and some others
-abbrev pub allowed : HeapState → ℕ → List (ℕ × ℕ) → ℕ
-allowed h budget ps = min (dead_count ps) (dead_in budget h.config.words) + pages_in budget
+-- how many of n pages are emptied, if the first `dead` have no live objects: all except a sixteenth of the others,
+-- so that objects that are made meanwhile find frames
+abbrev pub emptied_of : ℕ → ℕ → ℕ
+emptied_of dead n = n - (n - dead) / 16
 
--- of the pages that were found, those with the fewest live words, as many as a budget allows and there is room for
-abbrev pub IsChosen : HeapState → ℕ → List (ℕ × ℕ) → List ℕ → Type 0
-IsChosen h budget found xs = (ps : List (ℕ × ℕ)) × IsPermutation found ps × IsRising ps
-    × IsFitting h (map page_of (take (allowed h budget ps) ps)) xs
+-- of the pages that were found, those with the fewest live words, as many as there is space for, except a sixteenth
+-- of those with live objects
+abbrev pub IsChosen : HeapState → List (ℕ × ℕ) → List ℕ → Type 0
+IsChosen h found xs = (ps : List (ℕ × ℕ)) × (ns : List ℕ) × IsPermutation found ps × IsRising ps
+    × IsFitting h (map page_of ps) ns × (xs ≡ take (emptied_of (dead_count ps) (length ns)) ns)
 
--- ---- what a part does in each stage
+-- ---- how many frames are prepared
+
+-- how many words the live objects of the pages that were found have, at most 2 ^ 60
+abbrev pub found_words : List (ℕ × ℕ) → ℕ
+found_words ps = min (sum_by (λ (p : ℕ × ℕ). p.0) ps) (2 ^ 60)
+
+-- how many pages of `words` words n live words take, with a sixteenth for what stays free at the ends of pages
+abbrev pub pages_for : ℕ → ℕ → ℕ
+pages_for words n = (n + n / 16 + (max words 1 - 1)) / max words 1
+
+-- how many frames are prepared for the objects of the pages that were found: at most as many as pages can open
+abbrev pub frames_for : HeapState → List (ℕ × ℕ) → ℕ
+frames_for h found =
+    min (pages_for h.config.words (found_words found)) (min (free_count h.store) (unused_count h.store))
+
+-- all pages are measured: frames are prepared for what was found
+abbrev pub preparing : HeapState → PartsState → PartsState
+preparing h p = record p { stage = stages.Prepare; next = 0; frames = frames_for h p.found }
+
+-- how many pages of `words` words have 32 words for each object of a budget; a part prepares one frame more
+abbrev pub frames_by : ℕ → ℕ → ℕ
+frames_by budget words = budget * 32 / max words 1
+
+-- as many parts as prepare all frames, if of each two parts one finds that a page that opened has taken a frame
+abbrev pub parts_for : ℕ → ℕ → ℕ
+parts_for frames by = (2 * frames + 2 * by) / (2 * by + 1)
+
+-- how many parts prepare frames
+abbrev pub preparings : ℕ → PartsState → HeapState → ℕ
+preparings budget p h = parts_for p.frames (frames_by budget h.config.words)
+
+-- ---- the operations of a part in each stage
 
 -- a mark has ended, by EndMark as the last step
 abbrev pub HasEndedMark : HeapState → HeapState → Type 0
 HasEndedMark h g =
     (m : HeapState) × (a : Answer) × Collects h m × (outcome m (Worker WORKER) steps.EndMark ≡ Ok (g, a))
 
--- how a portion of a mark ended: true where the mark has
+-- how a quantum of a mark ended: true if the mark has
 abbrev pub EndsMarking : HeapState → Result Bool Refusal → HeapState → Type 0
 EndsMarking h (Ok true) g = Collects h g × HasEndedMark h g
 EndsMarking h (Ok false) g = Collects h g
 EndsMarking h (Err e) g = Stops h e g
 
--- a part of the mark: the next part goes on with it, or chooses pages, as the mark has ended
+-- a part of the mark: the next part continues it, or chooses pages, as the mark has ended
 abbrev pub MarksOn : PartsState → HeapState → Result Bool Refusal → PartsState → HeapState → Type 0
 MarksOn p h (Ok b) q g =
     (b ≡ false) × Collects h g × ((q ≡ p) ⊎ ((q ≡ at_stage stages.Choose p.chosen) × HasEndedMark h g))
 MarksOn p h (Err e) q g = (q ≡ p) × Stops h e g
+
+-- one more of the chosen pages was emptied, or one more part has prepared frames
+abbrev pub passed : PartsState → PartsState
+passed p = record p { next = min (p.next + 1) (2 ^ 32 - 1) }
 
 -- these pages were protected, and all threads have crossed: the next parts empty them
 abbrev pub IsProtected : List ℕ → HeapState → PartsState → HeapState → Type 0
 IsProtected ns h q g =
     (q ≡ at_stage stages.Empty ns) × ((m : HeapState) × Protects WORKER h ns m × Crosses WORKER m g)
 
--- that they are protected is refused, and not for memory, as the choice is out of date: the next part begins anew
+-- the protection of pages is rejected, and not for memory, as the choice is out of date: the next part begins anew
 abbrev pub BeginsAnew : List ℕ → HeapState → PartsState → HeapState → Type 0
 BeginsAnew ns h q g = (q ≡ at_stage stages.Mark ns) × (g ≡ h)
     × ((e : Refusal) × (is_memory e ≡ false) × (outcome h (Worker WORKER) (steps.Protect ns) ≡ Err e))
 
--- how it ended that all threads were to cross behind the protection of pages
+-- how the crossing of all threads after the protection of pages ended
 abbrev pub EndsCrossed : HeapState → Result Bool Refusal → HeapState → Type 0
 EndsCrossed h (Ok b) g = (b ≡ false) × Crosses WORKER h g
 EndsCrossed h (Err e) g = StopsCrossing WORKER h e g
 
--- what is told where Protect is refused: that memory was refused, or else that the next part begins anew
+-- the result if Protect is rejected: out of memory, or else the next part begins anew
 abbrev pub TellsAnew : Refusal → PartsState → Result Bool Refusal → PartsState → Type 0
 TellsAnew e p (Ok b) q = (b ≡ false) × (is_memory e ≡ false) × (q ≡ at_stage stages.Mark p.chosen)
 TellsAnew e p (Err x) q = (x ≡ e) × (is_memory e ≡ true)
 
--- chosen pages were protected, or that is refused, or threads have still to cross
+-- chosen pages were protected, or that is rejected, or not all threads have crossed
 abbrev pub ProtectsSome : List ℕ → HeapState → Result Bool Refusal → PartsState → HeapState → Type 0
 ProtectsSome ns h (Ok b) q g = (b ≡ false) × (IsProtected ns h q g ⊎ BeginsAnew ns h q g)
 ProtectsSome ns h (Err e) q g = LacksMemory h e g
     ⊎ ((q ≡ at_stage stages.Empty ns) × ((m : HeapState) × Protects WORKER h ns m × StopsCrossing WORKER m e g))
 
--- where no page is chosen nothing is done, and it is the last part
+-- if no page is chosen nothing is done, and it is the last part
 abbrev pub ChoosesNone : HeapState → Result Bool Refusal → PartsState → HeapState → Type 0
 ChoosesNone h (Ok b) q g = (q ≡ at_stage stages.Mark []) × (g ≡ h)
 ChoosesNone h (Err e) q g = ⊥
 
--- what came of the chosen pages
+-- how the protection of the chosen pages ended
 abbrev pub ProtectsOn : List ℕ → HeapState → Result Bool Refusal → PartsState → HeapState → Type 0
 ProtectsOn [] h r q g = ChoosesNone h r q g
 ProtectsOn (n ∷ ns) h r q g = ProtectsSome (n ∷ ns) h r q g
 
--- where all pages are measured, some of those that were found are chosen; or memory for that was refused
-abbrev pub ChoosesAll : ℕ → PartsState → HeapState → Result Bool Refusal → PartsState → HeapState → Type 0
-ChoosesAll budget p h (Ok b) q g = (ns : List ℕ) × IsChosen h budget p.found ns × ProtectsOn ns h (Ok b) q g
-ChoosesAll budget p h (Err e) q g =
-    LacksMemory h e g ⊎ ((ns : List ℕ) × IsChosen h budget p.found ns × ProtectsOn ns h (Err e) q g)
+-- some of the pages that were found are chosen; or there was no memory for that
+abbrev pub ChoosesAll : PartsState → HeapState → Result Bool Refusal → PartsState → HeapState → Type 0
+ChoosesAll p h (Ok b) q g = (ns : List ℕ) × IsChosen h p.found ns × ProtectsOn ns h (Ok b) q g
+ChoosesAll p h (Err e) q g =
+    LacksMemory h e g ⊎ ((ns : List ℕ) × IsChosen h p.found ns × ProtectsOn ns h (Err e) q g)
 
--- a part that measures pages, and chooses where all are measured
-abbrev pub ChoosesOn : ℕ → ℕ → PartsState → HeapState → Result Bool Refusal → PartsState → HeapState → Type 0
-ChoosesOn percent budget p h (Ok b) q g =
-    ((b ≡ false) × (g ≡ h) × Measures h percent (pages_in budget) p false q)
-    ⊎ ((m : PartsState) × Measures h percent (pages_in budget) p true m × ChoosesAll budget m h (Ok b) q g)
-ChoosesOn percent budget p h (Err e) q g =
-    LacksMemory h e g
-    ⊎ ((m : PartsState) × Measures h percent (pages_in budget) p true m × ChoosesAll budget m h (Err e) q g)
+-- a part that measures pages; if all are measured, the next part prepares frames
+abbrev pub MeasuresOn : ℕ → ℕ → PartsState → HeapState → Result Bool Refusal → PartsState → HeapState → Type 0
+MeasuresOn percent budget p h (Ok b) q g = (b ≡ false) × (g ≡ h)
+    × (Measures h percent (pages_in budget h.config.words) p false q
+    ⊎ ((m : PartsState) × Measures h percent (pages_in budget h.config.words) p true m × (q ≡ preparing h m)))
+MeasuresOn percent budget p h (Err e) q g = LacksMemory h e g
+
+-- one more part has prepared frames; if out of memory, the next part chooses with those that there are
+abbrev pub PreparesSome : PartsState → HeapState → Result Bool Refusal → PartsState → HeapState → Type 0
+PreparesSome p h (Ok b) q g = (b ≡ false) × (q ≡ passed p) × (g ≡ h)
+PreparesSome p h (Err e) q g = (q ≡ record p { frames = 0 }) × LacksMemory h e g
+
+-- a part that chooses if all frames are prepared, and prepares some if not
+abbrev pub PreparesIf : Bool → PartsState → HeapState → Result Bool Refusal → PartsState → HeapState → Type 0
+PreparesIf true p h r q g = ChoosesAll p h r q g
+PreparesIf false p h r q g = PreparesSome p h r q g
+
+abbrev pub PreparesOn : ℕ → PartsState → HeapState → Result Bool Refusal → PartsState → HeapState → Type 0
+PreparesOn budget p h r q g = PreparesIf (nat_le (preparings budget p h) p.next) p h r q g
 
 -- all threads have crossed, and page n isn't being emptied any more
 abbrev pub EmptiesOne : HeapState → ℕ → HeapState → Type 0
 EmptiesOne h n g = (m : HeapState) × Crosses WORKER h m × LeftPage m n g
 
--- the same; or it stopped so
+-- EmptiesOne; or it failed with e
 abbrev pub EndsOne : HeapState → ℕ → Result Unit Refusal → HeapState → Type 0
 EndsOne h n (Ok u) g = EmptiesOne h n g
 EndsOne h n (Err e) g = Stops h e g
 
--- one more of the chosen pages was emptied
-abbrev pub passed : PartsState → PartsState
-passed p = record p { next = min (p.next + 1) (2 ^ 32 - 1) }
-
--- a part that empties the next of the chosen pages: where none is left, it is the last part
+-- a part that empties the next of the chosen pages: if none is left, it is the last part
 abbrev pub EmptiesOn : PartsState → HeapState → Result Bool Refusal → PartsState → HeapState → Type 0
 EmptiesOn p h (Ok b) q g =
     ((slice_get p.chosen p.next ≡ None) × (q ≡ at_stage stages.Mark p.chosen) × (g ≡ h))
     ⊎ ((b ≡ false) × (q ≡ passed p) × ((n : ℕ) × (slice_get p.chosen p.next ≡ Some n) × EmptiesOne h n g))
 EmptiesOn p h (Err e) q g = (q ≡ p) × Stops h e g
 
--- by the stage
+-- a part, by the stage
 abbrev pub GoesOnIn : Stage → ℕ → ℕ → PartsState → HeapState → Result Bool Refusal → PartsState → HeapState → Type 0
 GoesOnIn stages.Mark percent budget p h r q g = MarksOn p h r q g
-GoesOnIn stages.Choose percent budget p h r q g = ChoosesOn percent budget p h r q g
+GoesOnIn stages.Choose percent budget p h r q g = MeasuresOn percent budget p h r q g
+GoesOnIn stages.Prepare percent budget p h r q g = PreparesOn budget p h r q g
 GoesOnIn stages.Empty percent budget p h r q g = EmptiesOn p h r q g
 
--- what a part does; true where it is the last one
+-- how a part ends; true if it is the last one
 abbrev pub GoesOn : ℕ → ℕ → PartsState → HeapState → Result Bool Refusal → PartsState → HeapState → Type 0
 GoesOn percent budget p h r q g = GoesOnIn p.stage percent budget p h r q g
 
--- the same, and then registers are corrected; true only where it is the last part
+-- GoesOn, and then registers are corrected; true only if it is the last part
 abbrev pub PartGoesOn : ℕ → ℕ → PartsState → HeapState → Result Bool Refusal → PartsState → HeapState → Type 0
 PartGoesOn percent budget p h (Ok b) q g =
     (m : HeapState) × (last : Bool) × GoesOn percent budget p h (Ok last) q m × Goes IsScrub m g

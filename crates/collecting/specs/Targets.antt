@@ -10,19 +10,19 @@ larger a b = if nat_lt a b then b else a
 abbrev pub some_of : ℕ → ℕ
 some_of n = if n == 0 then 1 else n
 
--- a number that has at most 32 bits
+-- a number of at most 32 bits, and at least `least`
 abbrev pub capped : ℕ → ℕ → ℕ
 capped least n = if nat_lt 4294967295 n then 4294967295 else larger least n
 
--- the frames that are used after a collection, so many of a hundred besides, and no fewer than the least
+-- the frames that are used after a collection, `growth` percent more, and no fewer than `least`
 abbrev pub grown : ℕ → ℕ → ℕ → ℕ
 grown least growth used = capped least (used + some_of (used * growth / 100))
 
--- a collection has come since so many frames were used: fewer are, or more than may be
+-- a collection has come since `before` frames were used: fewer are, or more than may be
 abbrev pub is_behind : ℕ → ℕ → ℕ → Bool
 is_behind before most used = nat_lt used before || nat_lt most used
 
--- how many frames may be used, where so many are now
+-- how many frames may be used, if `used` are now
 abbrev pub followed : ℕ → ℕ → ℕ → ℕ → ℕ → ℕ
 followed least growth before most used = if is_behind before most used then grown least growth used else most
 

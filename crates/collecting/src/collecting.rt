@@ -5,7 +5,8 @@ ghost use Rattle.model.specs.declared.steps.Step.TheVariants as steps;
 ghost use Rattle.model.specs.Phases.{is_protect_crossing};
 ghost use Rattle.managed.specs.Batches.{EndsLoads};
 ghost use Rattle.managed.specs.Collecting.{StandsUnseen};
-ghost use Rattle.managed.specs.Data.{EndsReading, EndsWriting};
+ghost use Rattle.managed.specs.Bytes.{EndsReadingBytes, EndsWritingBytes};
+ghost use Rattle.managed.specs.Data.{EndsCopying, EndsReading, EndsWriting};
 ghost use Rattle.managed.specs.Goings.{LoadsWhole, LoadStands};
 ghost use Rattle.managed.specs.Scrubbing.{AreScrubbed};
 ghost use Rattle.collecting.specs.Collections.{Collects, CollectsWhole, EndsCollecting, IsNotRoom};
@@ -19,6 +20,7 @@ ghost use Rattle.collecting.specs.Targets.{followed, in_use};
 
 use crate::cycles::run_cycle;
 use crate::leftovers::settle;
+use crate::low::in_use;
 use crate::parts::Parts;
 use crate::policy::Policy;
 use crate::seeing::Object;
@@ -32,36 +34,35 @@ use std::alloc::Global;
 /// What a collection has done.
 #[derive(Clone, Copy, Debug, PartialEq, Eq)]
 pub struct Collected {
-    /// How many objects its mark found.
+    /// How many live objects its mark found.
     pub live: u64,
     /// How many pages were emptied.
     pub emptied: u64,
 }
 
-/// What a program asks of the heap that it holds, beside the steps of `Mutating`: whole loads, objects with
-/// the room that they need, and collections, which worker 0 does.
+/// The calls of a program on the heap that it holds, besides the steps of `Mutating`: complete loads, objects with
+/// the space that they need, and collections, which worker 0 does.
 ///
-/// `thread`, registers (`target`, `object`), `field`, `global` and `layout` are numbers from 0. Each call is
-/// as its contract says on a `ManagedHeap`; a function that is generic over this trait knows nothing of
-/// what it calls, and is proved in short time.
+/// `thread`, registers (`target`, `object`), `field`, `global` and `layout` are numbers from 0. Each call is as its
+/// contract says on a `ManagedHeap`; a function that is generic over this trait depends on none of these contracts,
+/// and is proved in short time.
 pub trait Holding: Mutating {
-    /// Loads a reference field of an object into a register, whole, through the read barrier.
+    /// Loads a reference field of an object into a register, completely, through the read barrier.
     ///
-    /// Refused as `Mutating::load` is, and nothing was done then.
+    /// Fails as `Mutating::load` does, and nothing is done then.
     fn read(&mut self, thread: u32, target: u32, object: u32, field: u32) -> Result<(), Refusal>;
 
-    /// Loads several reference fields of the object in a register, each as `read` does, in their order. A
-    /// load whose `target` is that register comes last: loads after it would be of the object that the
-    /// register names then.
+    /// Loads several reference fields of the object in a register, each as `read` does, in their order. A load whose
+    /// `target` is that register comes last: later loads would be from the object that the register names then.
     ///
     /// Stops at the first load that fails, and returns how many are done. Fails as `read` does.
     fn loads(&mut self, thread: u32, object: u32, fields: &[FieldLoad]) -> Result<(), LoadsFault>;
 
-    /// Reads data words of the object that a register names, from word `first` on, as many as `values` has
-    /// room for: as a call of `Mutating::datum` for each, with one look at the object.
+    /// Reads data words of the object that a register names, from word `first` on, until `values` is full: as a call
+    /// of `Mutating::datum` for each, but the object is looked up once.
     ///
-    /// Fails as `Mutating::datum` does of one of them, with `BadIndex` if the object has fewer; nothing is
-    /// said of `values` then.
+    /// Fails as `Mutating::datum` does for one of them, with `BadIndex` if the object has fewer; `values` is
+    /// unspecified then.
     fn get_many(
         &self,
         thread: u32,
@@ -71,9 +72,9 @@ pub trait Holding: Mutating {
     ) -> Result<(), Refusal>;
 
     /// Writes data words of the object that a register names, from word `first` on: as a call of
-    /// `Mutating::set_datum` for each of `values`, in order, with one look at the object.
+    /// `Mutating::set_datum` for each of `values`, in order, but the object is looked up once.
     ///
-    /// Fails as `Mutating::set_datum` does of one of them, with `BadIndex` if the object has fewer; nothing is
+    /// Fails as `Mutating::set_datum` does for one of them, with `BadIndex` if the object has fewer; nothing is
     /// written then.
     fn set_many(
         &mut self,
@@ -83,38 +84,76 @@ pub trait Holding: Mutating {
         values: &[u64],
     ) -> Result<(), Refusal>;
 
-    /// Loads a global into a register, whole, through the read barrier. Refused as
-    /// `Mutating::load_global` is, and nothing was done then.
+    /// Copies `count` data words of the object that register `source` names, from word `first_of_source` on, to the
+    /// object that register `target` names, from word `first` on, as `get_many` and then `set_many` do. So the two
+    /// may be the same object, and overlap. Fails as one of these, and nothing is written then.
+    fn copy_data(
+        &mut self,
+        thread: u32,
+        target: u32,
+        first: u32,
+        source: u32,
+        first_of_source: u32,
+        count: usize,
+    ) -> Result<(), Refusal>;
+
+    /// Reads bytes of the data of the object that a register names, from byte `offset` on, until `bytes` is full.
+    /// Byte i is byte i % 8 of data word i / 8, the lowest byte of each word first, as x86-64 has them in memory.
+    /// Fails as `Mutating::datum` does for one of their words, with `BadIndex` if the object has fewer; `bytes` is
+    /// unspecified then.
+    fn read_bytes(
+        &self,
+        thread: u32,
+        object: u32,
+        offset: u32,
+        bytes: &mut [u8],
+    ) -> Result<(), Refusal>;
+
+    /// Writes bytes of the data of the object that a register names, from byte `offset` on, numbered as in
+    /// `read_bytes`: as a call of `Mutating::set_datum` for each word that has one of them. The other bytes of these
+    /// words stay. Fails as `read_bytes` does, and nothing is written then.
+    fn write_bytes(
+        &mut self,
+        thread: u32,
+        object: u32,
+        offset: u32,
+        bytes: &[u8],
+    ) -> Result<(), Refusal>;
+
+    /// Loads a global into a register, completely, through the read barrier. Fails as `Mutating::load_global` does,
+    /// and nothing is done then.
     fn read_global(&mut self, thread: u32, target: u32, global: u32) -> Result<(), Refusal>;
 
-    /// The object that a register names: its birth, its layout, and how many references and data it has.
+    /// Returns the object that a register names: its birth, its layout, and how many references and data words it
+    /// has.
     ///
-    /// Refused as `BadIndex` for a thread or a register that isn't there, and as `Null`, `Stall` or `Stale`
-    /// where the register may not be used.
+    /// Fails with `BadIndex` if the thread or the register isn't there, and with `Null`, `Stall` or `Stale` if the
+    /// register may not be used.
     fn object(&self, thread: u32, register: u32) -> Result<Object, Refusal>;
 
-    /// A whole collection. What an earlier one has left is ended first. Then a mark runs from its start,
-    /// or to its end where one runs; pages of which at most `percent` words of a hundred are live are
-    /// chosen, as many as there is room for; and these are emptied: all threads cross, live objects are
-    /// copied, the pages' frames are free, and registers that named them are corrected, but for those of
-    /// parked threads and of threads with an open barrier.
+    /// Does a complete collection. Whatever an earlier one has left is finished first. Then a mark runs from its
+    /// start, or the running mark to its end; pages of which at most `percent` words of a hundred are live are
+    /// chosen, as many as there is space for; and these are emptied: all threads cross, live objects are copied, the
+    /// pages' frames are released, and registers that named them are corrected, except those of parked threads and
+    /// of threads with an open barrier.
     ///
-    /// Refused as `NotCrossed` or `Pending` for a thread with an open barrier, and as `Memory`; never as
-    /// `NoFrames` or `NoPages`. What was done by then is done, and another call goes on from there once that
-    /// load has ended.
+    /// Fails with `NotCrossed` or `Pending` if a thread has an open barrier, and with `Memory`; never with
+    /// `NoFrames` or `NoPages`. The steps before that are done, and another call continues from there once that load
+    /// has ended.
     fn collect(&mut self, alloc: Global, percent: u32) -> Result<Collected, Refusal>;
 
-    /// The next part of a collection, for a program that can't stop for a whole one: the beginning of a mark
-    /// with all crossings; the scan of at most `budget` objects, which ends behind the object with which 64
-    /// references for each of the budget were scanned; the mark's end; the measuring of
-    /// `budget / 64 + 1` pages; the protection of at most as many, with all crossings; or the emptying of one
-    /// page. Where a mark has begun while objects were still to be copied, it is the copying of one page; and
-    /// where the worker has an object that steps have left it, the rest of its scan. True where the collection
-    /// has ended: no mark runs, and nothing is left to be copied or emptied; the next part begins another.
-    /// Where the program itself has begun a mark or protected pages meanwhile, it isn't true at the end, and
-    /// the next part goes on with these.
+    /// Does the next part of a collection, for a program that can't stop for a complete one: the beginning of a mark
+    /// with all crossings; the scan of at most `budget` objects, which ends after the object with which 64 references
+    /// for each of the budget were scanned; the mark's end; the measuring of `budget / 64 + 1` pages; the preparing
+    /// of memory of at most `budget * 32 / words + 1` frames for their objects, on pages of `words` words; the
+    /// protection of all pages that `collect` would empty, except a sixteenth of those with live objects, with all
+    /// crossings; or the emptying of one page. If a mark has begun while objects were uncopied, it is the copying of
+    /// one page; and if the worker has an object that steps have left it, the rest of its scan. Returns true if the
+    /// collection has ended: no mark runs, and nothing is left to be copied or emptied; the next part begins another.
+    /// If the program itself has begun a mark or protected pages meanwhile, it returns false at the end, and the next
+    /// part continues with these.
     ///
-    /// Refused as `collect` is; another call goes on from there.
+    /// Fails as `collect` does; another call continues from there.
     fn collect_some(
         &mut self,
         alloc: Global,
@@ -123,19 +162,20 @@ pub trait Holding: Mutating {
         budget: u32,
     ) -> Result<bool, Refusal>;
 
-    /// A fresh buffer for a thread, of `policy.words`; the one that it has is given back. Where at most
-    /// `policy.free` frames are free, or there is no room, the heap is collected before; and where there is
-    /// no room then, a mark runs once more, which frees the numbers of the pages that were emptied.
+    /// Gets a thread a fresh allocation buffer of `policy.words`, and gives back the one that it has. If at most
+    /// `policy.free` frames are free and enough pages were opened since the last mark ended, half as many as frames are
+    /// free or a sixteenth of those in use, or if there is no space, the heap is collected before; and if there is no
+    /// space then, a mark runs once more, which frees the numbers of the pages that were emptied.
     ///
-    /// Refused as `take` is, or as `collect` is: as `Memory` where memory for a fresh page was refused, for which
+    /// Fails as `take` does, or as `collect` does: with `Memory` if out of memory for a fresh page, for which
     /// nothing is collected.
     fn refill(&mut self, alloc: Global, policy: Policy, thread: u32) -> Result<Buffer, Refusal>;
 
-    /// Makes an object as `new_object` does; where the thread has no buffer with room for it, `refill` gets
-    /// it one before. Gives the object's birth number.
+    /// Makes an object as `new_object` does; if the thread has no buffer with space for it, `refill` gets it one
+    /// before. Returns the object's birth number.
     ///
-    /// Refused as `new_object` is, as `NoRoom` for an object that is larger than `policy.words`, or as
-    /// `refill` is, as `Memory` where memory for a fresh page was refused.
+    /// Fails as `new_object` does, with `NoRoom` for an object that is larger than `policy.words`, or as `refill`
+    /// does, with `Memory` if out of memory for a fresh page.
     fn make(
         &mut self,
         alloc: Global,
@@ -145,11 +185,13 @@ pub trait Holding: Mutating {
         layout: u32,
     ) -> Result<u64, Refusal>;
 
-    /// Makes an object as `make` does, beside a collection in parts. Where the thread's buffer has no room for it,
-    /// and at most `policy.free` frames are free or a collection in parts has begun, its next two parts come first. The
-    /// heap is collected by one call only where at most one frame is free then, or none if `policy.free` is 0.
+    /// Makes an object as `make` does, during a collection in parts. If the thread's buffer has no space for it, the
+    /// fresh buffer does its share of the collection first, if one has begun or frames are low as for `refill`: parts
+    /// until the collection ends, or until `4 * s / a + 2` are done, where `s` is how many parts the stage has and `a`
+    /// how many more frames are free than a quarter of `policy.free`. If none is, the rest of the collection is done;
+    /// the heap is collected by one call only if no frame is free.
     ///
-    /// `budget` is how many objects a part may scan. Refused as `make` is.
+    /// `budget` is how many objects a part may scan. Fails as `make` does.
     fn make_paced(
         &mut self,
         alloc: Global,
@@ -161,7 +203,7 @@ pub trait Holding: Mutating {
         layout: u32,
     ) -> Result<u64, Refusal>;
 
-    /// Makes an object as `make_paced` does, and fills it as `make_with` does. Refused as `make_with` is.
+    /// Makes an object as `make_paced` does, and fills it as `make_with` does. Fails as `make_with` does.
     fn make_with_paced(
         &mut self,
         alloc: Global,
@@ -175,13 +217,13 @@ pub trait Holding: Mutating {
         nums: &[u64],
     ) -> Result<u64, Refusal>;
 
-    /// Makes an object as `make` does, then stores in its first references what the registers `sources`
-    /// name, as `store` does, and then writes its first data words, as `set_datum` does. Where `target` is a
+    /// Makes an object as `make` does, then stores the references of the registers `sources` in its first
+    /// references, as `store` does, and then writes its first data words, as `set_datum` does. If `target` is a
     /// source, it names the new object. Returns the object's birth number.
     ///
-    /// Before the object is made the rest is tested: it fails with `BadIndex` if a register or the layout
-    /// isn't there, or if the layout has fewer references or data; with `Stall` or `Stale` if a source may
-    /// not be used; and as `make` does. No object is made then.
+    /// Before the object is made the rest is tested: it fails with `BadIndex` if a register or the layout isn't
+    /// there, or if the layout has fewer references or data words; with `Stall` or `Stale` if a source may not be
+    /// used; and as `make` does. No object is made then.
     fn make_with(
         &mut self,
         alloc: Global,
@@ -193,17 +235,17 @@ pub trait Holding: Mutating {
         nums: &[u64],
     ) -> Result<u64, Refusal>;
 
-    /// How many frames' memory is kept for the next pages: of frames that became free, at most as many as are
-    /// free.
+    /// Returns how many frames' memory is kept for the next pages: of frames that became free, or prepared by a
+    /// collection in parts; at most as many as are free.
     fn kept_frames(&self) -> usize;
 
-    /// Gives memory of free frames back to the allocator, but for that of `most` frames. Memory of frames that
-    /// became free is kept for the next pages until then. Nothing of the heap changes.
+    /// Releases the memory of free frames to the allocator, except that of `most` frames. Until then, memory of
+    /// frames that became free is kept for the next pages. The state of the heap stays.
     fn trim(&mut self, most: usize);
 
-    /// Tells a target how many frames are used, as `Target::follow`; where that sets it, memory of free frames that the
-    /// target doesn't allow is given back. A program does this behind each call that may collect, and gives the next
-    /// ones `target.policy(..)`. Nothing of the heap changes.
+    /// Reports to a target how many frames are used, as `Target::follow`; if that sets it, memory of free frames
+    /// that the target doesn't allow is released. A program does this after each call that may collect, and passes
+    /// `target.policy(..)` to the next ones. The state of the heap stays.
     fn follow(&mut self, target: &mut Target);
 }
 
@@ -248,6 +290,48 @@ impl Holding for ManagedHeap {
         ensures { EndsWriting thread object first values.now self.old result self.new }
     {
         ManagedHeap::set_many(self, thread, object, first, values)
+    }
+
+    #[inline(always)]
+    fn copy_data(
+        &mut self,
+        thread: u32,
+        target: u32,
+        first: u32,
+        source: u32,
+        first_of_source: u32,
+        count: usize,
+    ) -> Result<(), Refusal>
+        ensures { EndsCopying thread target first source first_of_source count self.old result self.new }
+    {
+        ManagedHeap::copy_data(self, thread, target, first, source, first_of_source, count)
+    }
+
+    #[inline(always)]
+    fn read_bytes(
+        &self,
+        thread: u32,
+        object: u32,
+        offset: u32,
+        bytes: &mut [u8],
+    ) -> Result<(), Refusal>
+        ensures len { length bytes.new ≡ length bytes.old }
+        ensures reads { EndsReadingBytes thread object offset self.now result bytes.new }
+    {
+        ManagedHeap::read_bytes(self, thread, object, offset, bytes)
+    }
+
+    #[inline(always)]
+    fn write_bytes(
+        &mut self,
+        thread: u32,
+        object: u32,
+        offset: u32,
+        bytes: &[u8],
+    ) -> Result<(), Refusal>
+        ensures { EndsWritingBytes thread object offset bytes.now self.old result self.new }
+    {
+        ManagedHeap::write_bytes(self, thread, object, offset, bytes)
     }
 
     #[inline(always)]
@@ -391,11 +475,7 @@ impl Holding for ManagedHeap {
         ensures frames { target.new.frames ≡ followed target.old.least target.old.growth target.old.used
             target.old.frames (in_use self.old) }
     {
-        let heap = self.heap();
-        let used = heap
-            .config()
-            .frames
-            .saturating_sub(heap.memory().free_frames());
+        let used = in_use(self.heap());
         if target.follow(used) {
             let allowed = target.frames().saturating_sub(used);
             ManagedHeap::trim(self, allowed as usize);

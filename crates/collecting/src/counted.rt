@@ -1,4 +1,4 @@
-//! The calls of a program that may collect, counted beside its heap.
+//! The calls of a program that may collect, with counters alongside its heap.
 
 ghost use Rattle.std.specs.Prelude.{◌≡◌, IfOk, false, length};
 ghost use Rattle.model.specs.Phases.{is_protect_crossing};
@@ -27,10 +27,10 @@ use managed::ManagedHeap;
 use model::{Buffer, Refusal};
 use std::alloc::Global;
 
-/// The calls of `Holding` that may collect a heap, each of which counts in `Counters` what it has done. Each does to
-/// the heap what the call of `Holding` does that it is named after, with the same results and errors.
+/// The calls of `Holding` that may collect a heap, each of which counts in `Counters` what it has done. Each has the
+/// effect of the call of `Holding` that it is named after on the heap, with the same results and errors.
 pub trait Counting: Holding {
-    /// As `Holding::collect`, which is counted as asked for by a call.
+    /// As `Holding::collect`; counted as requested by a call.
     fn collect_counted(
         &mut self,
         alloc: Global,
@@ -38,7 +38,7 @@ pub trait Counting: Holding {
         percent: u32,
     ) -> Result<Collected, Refusal>;
 
-    /// As `Holding::collect_some`. A part that is refused isn't counted.
+    /// As `Holding::collect_some`. A part that fails isn't counted.
     fn collect_some_counted(
         &mut self,
         alloc: Global,
@@ -48,7 +48,8 @@ pub trait Counting: Holding {
         budget: u32,
     ) -> Result<bool, Refusal>;
 
-    /// As `Holding::refill`. A collection that it begins is counted, by whether frames were low or there was no room.
+    /// As `Holding::refill`. A collection that it begins is counted, by whether frames were low or there was no
+    /// space.
     fn refill_counted(
         &mut self,
         alloc: Global,
@@ -57,8 +58,8 @@ pub trait Counting: Holding {
         thread: u32,
     ) -> Result<Buffer, Refusal>;
 
-    /// As `Holding::make`. A collection is counted as of `refill_counted`; without one the counters stay as they are if
-    /// the thread's buffer has room.
+    /// As `Holding::make`. A collection is counted as by `refill_counted`; without one the counters stay as they are
+    /// if the thread's buffer has space.
     fn make_counted(
         &mut self,
         alloc: Global,
@@ -69,7 +70,7 @@ pub trait Counting: Holding {
         layout: u32,
     ) -> Result<u64, Refusal>;
 
-    /// As `Holding::make_with`, and counts as `make_counted`.
+    /// As `Holding::make_with`; counts as `make_counted`.
     fn make_with_counted(
         &mut self,
         alloc: Global,
@@ -82,7 +83,7 @@ pub trait Counting: Holding {
         nums: &[u64],
     ) -> Result<u64, Refusal>;
 
-    /// As `Holding::make_paced`. The parts are counted, and a complete collection as of `make_counted`.
+    /// As `Holding::make_paced`. The parts are counted, and a complete collection as by `make_counted`.
     fn make_paced_counted(
         &mut self,
         alloc: Global,
@@ -95,7 +96,7 @@ pub trait Counting: Holding {
         layout: u32,
     ) -> Result<u64, Refusal>;
 
-    /// As `Holding::make_with_paced`, and counts as `make_paced_counted`.
+    /// As `Holding::make_with_paced`; counts as `make_paced_counted`.
     fn make_with_paced_counted(
         &mut self,
         alloc: Global,
@@ -111,7 +112,7 @@ pub trait Counting: Holding {
     ) -> Result<u64, Refusal>;
 }
 
-/// Makes an object during a collection in parts; all collections for it are counted.
+/// Makes an object during a collection in parts, and counts all collections for it.
 #[inline(always)]
 fn make_paced_counted(
     heap: &mut ManagedHeap,
@@ -139,7 +140,7 @@ fn make_paced_counted(
     }
 }
 
-/// Makes an object during a collection in parts, and fills it; all collections for it are counted.
+/// Makes an object during a collection in parts, and fills it; counts all collections for it.
 #[inline(always)]
 fn make_paced_and_fill_counted(
     heap: &mut ManagedHeap,
@@ -171,7 +172,7 @@ fn make_paced_and_fill_counted(
     }
 }
 
-/// Makes an object, and fills it; a collection for it is counted.
+/// Makes an object, and fills it; counts a collection for it.
 #[inline(always)]
 fn make_and_fill_counted(
     heap: &mut ManagedHeap,

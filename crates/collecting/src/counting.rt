@@ -1,4 +1,4 @@
-//! What collections have come to, counted beside a heap.
+//! Counters of collections, alongside a heap.
 
 ghost use Rattle.std.specs.Prelude.{◌≡◌, IfOk, false};
 ghost use Rattle.model.specs.Phases.{is_protect_crossing};
@@ -10,6 +10,7 @@ ghost use Rattle.collecting.specs.Stages.{PartGoesOn};
 ghost use Rattle.collecting.specs.Targets.{in_use};
 
 use crate::collecting::{Collected, collect_whole};
+use crate::low::in_use;
 use crate::parts::{Parts, collect_some};
 use heap::Heap;
 use managed::ManagedHeap;
@@ -21,23 +22,23 @@ use std::alloc::Global;
 pub enum Cause {
     /// A call asked for it.
     Call,
-    /// A thread was to get a fresh buffer, and at most as many frames were free as its policy says.
+    /// A thread was to get a fresh buffer, and at most `policy.free` frames were free.
     Policy,
-    /// A thread was to get a fresh buffer, and there was no room for one.
+    /// A thread was to get a fresh buffer, and there was no space for one.
     Room,
 }
 
-/// What the collections of a heap have come to, since these counters were made. A program keeps them beside its heap;
-/// the calls of `Counting` count. Each number stops at the greatest of 64 bits.
+/// Counters of a heap's collections, since they were made. A program keeps them alongside its heap; the calls of
+/// `Counting` count. Each number stops at the greatest of 64 bits.
 #[derive(Clone, Copy, Debug, PartialEq, Eq)]
 pub struct Counters {
     /// Complete collections that have begun because a call asked for them.
     pub by_calls: u64,
     /// Complete collections that have begun for a fresh buffer, as few frames were free.
     pub by_policy: u64,
-    /// Complete collections that have begun for a fresh buffer, as there was no room for one.
+    /// Complete collections that have begun for a fresh buffer, as there was no space for one.
     pub by_room: u64,
-    /// Complete collections that have ended. Each other one that has begun was refused on its way.
+    /// Complete collections that have ended. Each other one that has begun has failed.
     pub ended: u64,
     /// Collections in parts that a part has begun.
     pub by_parts: u64,
@@ -47,14 +48,14 @@ pub struct Counters {
     pub ended_in_parts: u64,
     /// Pages that collections have emptied, complete ones and those in parts.
     pub emptied: u64,
-    /// The objects that the last complete collection has found to live.
+    /// The live objects that the last complete collection has found.
     pub live: u64,
     /// The most frames that were used after a call of `Counting`.
     pub most_frames: u32,
 }
 
 impl Counters {
-    /// Nothing was counted so far.
+    /// Returns counters at 0.
     pub fn new() -> Counters
         ensures { result ≡ no_counts }
     {
@@ -72,7 +73,7 @@ impl Counters {
         }
     }
 
-    /// One more complete collection has begun.
+    /// Counts the beginning of a complete collection.
     fn begin(&mut self, cause: Cause)
         ensures { self.new ≡ begun cause self.old }
     {
@@ -83,7 +84,7 @@ impl Counters {
         }
     }
 
-    /// A complete collection has ended so.
+    /// Counts the end of a complete collection.
     fn end(&mut self, answer: &Result<Collected, Refusal>)
         ensures { self.new ≡ ended answer.now self.old }
     {
@@ -94,20 +95,17 @@ impl Counters {
         }
     }
 
-    /// So many frames are used now.
+    /// Counts the frames that are used now.
     pub(crate) fn see(&mut self, heap: &Heap)
         ensures { self.new ≡ seen_in_use (in_use heap.now) self.old }
     {
-        let used = heap
-            .config()
-            .frames
-            .saturating_sub(heap.memory().free_frames());
+        let used = in_use(heap);
         if used > self.most_frames {
             self.most_frames = used;
         }
     }
 
-    /// A part was done, which has begun a collection, emptied a page, or ended the collection, or not.
+    /// Counts a part that was done: whether it has begun a collection, emptied a page, or ended the collection.
     fn count_part(&mut self, begins: bool, empties: bool, ends: bool)
         ensures { self.new ≡ part_done begins empties ends self.old }
     {
@@ -124,7 +122,7 @@ impl Counters {
     }
 }
 
-/// A complete collection, which is counted.
+/// Does a complete collection, and counts it.
 pub(crate) fn collect_counted(
     heap: &mut ManagedHeap,
     alloc: Global,
@@ -142,7 +140,7 @@ pub(crate) fn collect_counted(
     result
 }
 
-/// The next part of a collection, which is counted if it is done.
+/// Does the next part of a collection, which is counted if it is done.
 pub(crate) fn part_counted(
     heap: &mut ManagedHeap,
     alloc: Global,

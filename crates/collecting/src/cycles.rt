@@ -1,4 +1,4 @@
-//! A mark, and the pages that are emptied behind it.
+//! A mark, and the pages that are emptied after it.
 
 ghost use Rattle.std.specs.Prelude.{◌≡◌, IfOk, true};
 ghost use Rattle.managed.specs.Scrubbing.{AreScrubbed, needs_no_scrub};
@@ -12,7 +12,7 @@ use managed::ManagedHeap;
 use model::Refusal;
 use std::alloc::Global;
 
-/// The mark that is due: what is left of the one that runs, else a whole one.
+/// Runs the mark that is due: the rest of the one that runs, else a complete one.
 fn mark_due(heap: &mut ManagedHeap) -> Result<u64, Refusal>
     ensures goes { Collects heap.old heap.new }
     ensures ends { EndsDueMark heap.old result heap.new }
@@ -24,7 +24,7 @@ fn mark_due(heap: &mut ManagedHeap) -> Result<u64, Refusal>
     }
 }
 
-/// What an earlier collection has left is ended, and then the mark that is due runs. Gives how many objects
+/// Finishes whatever an earlier collection has left, and then runs the mark that is due. Returns how many objects
 /// live.
 pub(crate) fn mark_whole(heap: &mut ManagedHeap) -> Result<u64, Refusal>
     ensures { MarksWhole heap.old result heap.new }
@@ -35,7 +35,7 @@ pub(crate) fn mark_whole(heap: &mut ManagedHeap) -> Result<u64, Refusal>
     }
 }
 
-/// Empties chosen pages, and gives how many they are.
+/// Empties chosen pages, and returns how many they are.
 fn empty_chosen(heap: &mut ManagedHeap, pages: Vec<u32>) -> Result<u64, Refusal>
     ensures ends { EndsChosen heap.old pages.items result heap.new }
     ensures scrubbed { needs_no_scrub heap.old.phase ≡ true → IfOk result (λ count. AreScrubbed heap.new) }
@@ -51,7 +51,7 @@ fn empty_chosen(heap: &mut ManagedHeap, pages: Vec<u32>) -> Result<u64, Refusal>
     }
 }
 
-/// Chooses pages and empties them, and gives how many they are.
+/// Chooses pages and empties them, and returns how many they are.
 fn empty_sparse(heap: &mut ManagedHeap, alloc: Global, percent: u32) -> Result<u64, Refusal>
     ensures ends { EndsSparse percent heap.old result heap.new }
     ensures scrubbed { needs_no_scrub heap.old.phase ≡ true → IfOk result (λ count. AreScrubbed heap.new) }
@@ -62,7 +62,7 @@ fn empty_sparse(heap: &mut ManagedHeap, alloc: Global, percent: u32) -> Result<u
     }
 }
 
-/// Behind a mark that found so many objects, chooses pages and empties them.
+/// Chooses pages and empties them, after a mark that found `live` objects.
 fn empty_behind(
     heap: &mut ManagedHeap,
     alloc: Global,
@@ -78,7 +78,7 @@ fn empty_behind(
     }
 }
 
-/// A mark, and then pages are chosen and emptied.
+/// Runs a mark, and then chooses pages and empties them.
 pub(crate) fn run_cycle(
     heap: &mut ManagedHeap,
     alloc: Global,

@@ -1,4 +1,4 @@
-//! Few kinds of refusal, for a program that holds a heap alone.
+//! A few kinds of errors, for a program that holds a heap alone.
 
 ghost use Rattle.std.specs.Prelude.{◌≡◌};
 ghost use Rattle.collecting.specs.Faults.{fault_in};
@@ -10,7 +10,7 @@ use model::{Refusal, Step};
 use std::error::Error;
 use std::fmt;
 
-/// Why a call of a program isn't done. A program whose heap nobody else collects or shares never meets `Held`.
+/// Why a call of a program failed. A program whose heap nobody else collects or shares never meets `Held`.
 #[derive(Clone, Copy, Debug, PartialEq, Eq)]
 pub enum CallFault {
     /// A register is null.
@@ -22,13 +22,13 @@ pub enum CallFault {
     Wrong(Number),
     /// A field of the policy is out of its range.
     Policy(PolicyFault),
-    /// The heap has no room.
+    /// The heap is full.
     Full,
-    /// The system refused memory.
+    /// Out of memory.
     Memory,
     /// No more objects may be born.
     Births,
-    /// Something else stands in the way: an open barrier, a parked thread, or a collection by steps.
+    /// Something else prevents it: an open barrier, a parked thread, or a collection by steps.
     Held(Refusal),
 }
 
@@ -66,8 +66,9 @@ impl From<PolicyFault> for CallFault {
 }
 
 impl CallFault {
-    /// The kind of the refusal of a thread's step on this heap. Where the step names a thread, a register, a global, a
-    /// layout, a field or a datum that isn't there, `Wrong` says which of these; all else is as of `CallFault::from`.
+    /// Returns the kind of the error of a thread's step on this heap. If the step names a thread, a register, a
+    /// global, a layout, a field or a datum that isn't there, `Wrong` says which of these; all else is as by
+    /// `CallFault::from`.
     pub fn of_step(heap: &Heap, step: &Step, refusal: Refusal) -> CallFault
         ensures { result ≡ fault_in heap.now step.now refusal }
     {

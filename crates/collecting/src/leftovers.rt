@@ -1,4 +1,4 @@
-//! What an earlier collection has left.
+//! What an earlier collection has left unfinished.
 
 ghost use Rattle.std.specs.Prelude.{◌≡◌, false, Ok};
 ghost use Rattle.model.specs.Checkpoints.{all_crossed};
@@ -13,7 +13,7 @@ use model::{PageState, Refusal};
 /// The worker that collects.
 pub(crate) const WORKER: u32 = 0;
 
-/// All threads cross the open checkpoint, and pages that are protected are emptied.
+/// Has all threads cross the open checkpoint, and empties pages that are protected.
 pub(crate) fn settle(heap: &mut ManagedHeap) -> Result<(), Refusal>
     ensures { EndsSettling heap.old result heap.new }
 {
@@ -23,7 +23,7 @@ pub(crate) fn settle(heap: &mut ManagedHeap) -> Result<(), Refusal>
     }
 }
 
-/// Pages that are protected are emptied, where all threads have crossed.
+/// Empties pages that are protected, if all threads have crossed.
 fn settle_crossed(heap: &mut ManagedHeap) -> Result<(), Refusal>
     requires { all_crossed heap.old ≡ Ok tt }
     ensures { EndsLeftPages heap.old result heap.new }
@@ -32,7 +32,7 @@ fn settle_crossed(heap: &mut ManagedHeap) -> Result<(), Refusal>
     settle_pages(heap)
 }
 
-/// Pages that are protected are emptied.
+/// Empties pages that are protected.
 fn settle_pages(heap: &mut ManagedHeap) -> Result<(), Refusal>
     requires { is_crossing heap.old.phase ≡ false }
     ensures { EndsLeftPages heap.old result heap.new }
@@ -46,14 +46,14 @@ fn settle_pages(heap: &mut ManagedHeap) -> Result<(), Refusal>
     Ok(())
 }
 
-/// Whether a page, by its number from 1, is being emptied, and has memory.
+/// Returns whether a page, by its number from 1, is being emptied, and has memory.
 fn is_from(heap: &Heap, page: u32) -> bool
     ensures { result ≡ is_from (state_at heap.now.store page) }
 {
     matches!(heap.memory().state(page), PageState::From)
 }
 
-/// A page, by its number from 1, is emptied where it is protected.
+/// Empties a page, by its number from 1, if it is protected.
 pub(crate) fn settle_page(heap: &mut ManagedHeap, page: u32) -> Result<(), Refusal>
     requires { is_crossing heap.old.phase ≡ false }
     ensures { EndsLeft heap.old page result heap.new }

@@ -1,9 +1,9 @@
-//! A managed heap that is collected by one call, whole or in parts, and by itself where frames run low
-//! (ours).
+//! A managed heap that is collected by one call, completely or in parts, and by itself if frames run low.
 //!
 //! `docs/COLLECTING.md` says when a program collects, and what it may expect.
 #![tactic(auto)]
 
+mod chosen;
 mod collecting;
 mod counted;
 mod counting;
@@ -11,11 +11,13 @@ mod cycles;
 mod faults;
 mod filling;
 mod leftovers;
+mod low;
 mod numbers;
 mod pacing;
 mod parts;
 mod policy;
 mod portions;
+mod preparing;
 mod rooms;
 mod seeing;
 mod target;

@@ -9,7 +9,7 @@ use heap::Heap;
 use model::Step;
 use std::fmt;
 
-/// What a number of a call names.
+/// The kind of thing that a number of a call names.
 #[derive(Clone, Copy, Debug, PartialEq, Eq)]
 pub enum Number {
     /// A thread, from 0.
@@ -42,7 +42,7 @@ impl fmt::Display for Number {
     }
 }
 
-/// Whether a heap has no register of this number.
+/// Returns whether a heap has no register of this number.
 #[tactic(auto, unfolding(model::specs::Outcome::no_register))]
 fn no_register(heap: &Heap, register: u32) -> bool
     ensures { result ≡ no_register heap.now register }
@@ -50,7 +50,7 @@ fn no_register(heap: &Heap, register: u32) -> bool
     register >= heap.config().registers
 }
 
-/// `Number::Register` if one of two registers isn't there, else the other number.
+/// Returns `Number::Register` if one of two registers isn't there, else the other number.
 fn register_or(heap: &Heap, one: u32, two: u32, other: Number) -> Number
     ensures { result ≡ register_or heap.now one two other }
 {
@@ -61,9 +61,9 @@ fn register_or(heap: &Heap, one: u32, two: u32, other: Number) -> Number
     }
 }
 
-/// Returns which number of a thread's step names nothing, if the step is refused as `BadIndex` on this heap: a register
-/// if one isn't there, else the number that the step has besides. `None` for a step without a number, or of a worker.
-/// A refused step leaves the heap as it was, so this may be called after it.
+/// Returns which number of a thread's step names nothing, if the step fails with `BadIndex` on this heap: a register
+/// if one isn't there, else the step's other number. `None` for a step without a number, or of a worker. A rejected
+/// step leaves the heap as it was, so this may be called after it.
 pub fn wrong_number(heap: &Heap, step: &Step) -> Option<Number>
     ensures number { result ≡ wrong_number heap.now step.now }
     ensures known { IfSome result (λ n. n ≢ numbers.Thread) }

@@ -1,21 +1,25 @@
-//! Collections in parts, for a program that can't stop for a whole one.
+//! Collections in parts, for a program that can't stop for a complete one.
 
-ghost use Rattle.std.specs.Prelude.{◌≡◌, ◌+◌, ◌<◌, ◌≤◌, IfOk, false, length, map, min, position, slice_get, take, true};
-ghost use Rattle.choosing.specs.Choices.{page_of};
+ghost use Rattle.std.specs.Prelude.{◌≡◌, ◌+◌, ◌*◌, ◌/◌, ◌^◌, ◌<◌, ◌≤◌, IfOk, false, length, max};
+ghost use Rattle.std.specs.Prelude.{min, nat_le, slice_get, true};
 ghost use Rattle.model.specs.declared.records.Page.{Page};
 ghost use Rattle.model.specs.Phases.{is_protect_crossing};
 ghost use Rattle.managed.specs.Goings.{Goes, IsScrub};
 ghost use Rattle.managed.specs.Scrubbing.{AreScrubbed};
 ghost use Rattle.collecting.specs.Collections.{has_from};
-ghost use Rattle.collecting.specs.Counting.{is_emptying};
-ghost use Rattle.collecting.specs.Pacing.{has_begun};
+ghost use Rattle.collecting.specs.Pacing.{has_begun, is_emptying, parts_in};
+ghost use Rattle.collecting.specs.Targets.{in_use};
 ghost use Rattle.collecting.specs.Parts.{EndsPart, HasEnded, is_memory};
-ghost use Rattle.collecting.specs.Stages.{ChoosesAll, ChoosesOn, EmptiesOn, EndsCrossed, GoesOn, IsChosen, IsFitting};
-ghost use Rattle.collecting.specs.Stages.{MarksOn, Measures, PartGoesOn, ProtectsSome, TellsAnew, at_stage, entered};
-ghost use Rattle.collecting.specs.Stages.{dead_count, dead_in, first_parts, has_live, measured_one, pages_in, passed};
+ghost use Rattle.collecting.specs.Stages.{ChoosesAll, EmptiesOn, EndsCrossed, GoesOn, IsChosen, MarksOn, Measures};
+ghost use Rattle.collecting.specs.Stages.{MeasuresOn, PartGoesOn, PreparesOn, PreparesSome, ProtectsSome, TellsAnew};
+ghost use Rattle.collecting.specs.Stages.{at_stage, entered, first_parts, measured_one, pages_in, passed, preparing};
+ghost use Rattle.collecting.specs.Stages.{preparings};
 
+use crate::chosen::{dead_count, fitting, most_of};
+use crate::low::in_use;
 use crate::portions::{cross, empty_one, mark_some, may_start_mark, protect};
-use choosing::{first_packing, measured, packed_page, room};
+use crate::preparing::{frames_by, frames_for, parts_for, prepare_some};
+use choosing::measured;
 use heap::Heap;
 use managed::ManagedHeap;
 use model::{Page, PageState, Refusal};
@@ -27,20 +31,23 @@ use std::marker::Model;
 enum Stage {
     Mark,
     Choose,
+    Prepare,
     Empty,
 }
 
-/// How far a collection in parts has come. A program keeps one beside its heap. It is advice alone: each
-/// part asks the heap what may be done, so a whole collection may come between two parts.
+/// How far a collection in parts has come. A program keeps one alongside its heap. It is advice alone: each part
+/// tests on the heap what may be done, so a complete collection may come between two parts.
 #[derive(Drop)]
 pub struct Parts {
     stage: Stage,
-    /// Pages that may be worth it, each behind its live words.
+    /// Sparse pages that were found, each after its live words.
     found: Vec<(u64, u32)>,
     /// The pages that are emptied.
     chosen: Vec<u32>,
-    /// How many pages were measured, or how many of the chosen ones were emptied.
+    /// How many pages were measured, how many parts have prepared frames, or how many of the chosen pages were emptied.
     next: u32,
+    /// How many frames are to be prepared.
+    frames: u32,
 }
 
 impl Model for Parts {
@@ -48,11 +55,17 @@ impl Model for Parts {
 
     ghost Value = { PartsState };
 
-    ghost view = { λ p. record { stage = p.stage; found = p.found.items; chosen = p.chosen.items; next = p.next } };
+    ghost view = { λ p. record {
+      stage = p.stage;
+      found = p.found.items;
+      chosen = p.chosen.items;
+      next = p.next;
+      frames = p.frames;
+    } };
 }
 
 impl Parts {
-    /// Before the first part of a collection.
+    /// Returns the state before the first part of a collection.
     pub fn new(alloc: Global) -> Parts
         ensures { result ≡ first_parts }
     {
@@ -61,33 +74,89 @@ impl Parts {
             found: Vec::new(alloc),
             chosen: Vec::new(alloc),
             next: 0,
+            frames: 0,
         }
     }
 
-    /// Whether a collection has begun: a mark runs, or its pages are chosen or emptied.
+    /// Returns whether a collection has begun: a mark runs, or its pages are chosen or emptied.
     pub(crate) fn has_begun(&self, heap: &Heap) -> bool
         ensures { result ≡ has_begun self.now heap.now }
     {
         !matches!(self.stage, Stage::Mark) || heap.phase().is_marking()
     }
 
-    /// Whether the next part empties a page, if it is done.
+    /// Returns whether the next part empties a page, if it is done.
     pub(crate) fn is_emptying(&self) -> bool
         ensures { result ≡ is_emptying self.now }
     {
         matches!(self.stage, Stage::Empty) && self.next_page().is_some()
     }
 
-    /// Goes on with another part, from its beginning.
+    /// Returns how many parts this stage has: scans of all words in use, if an object has eight words; measurings of
+    /// all pages; preparings of frames; or one for each page that was chosen.
+    pub(crate) fn parts_in(&self, heap: &Heap, budget: u32) -> u64
+        ensures value { result ≡ parts_in self.now.stage budget self.now heap.now }
+        ensures range { result < 2 ^ 61 }
+    {
+        match self.stage {
+            Stage::Mark => scans_in(heap, budget),
+            Stage::Choose => u64::from(heap.memory().page_count()) / pages_in(heap, budget),
+            Stage::Prepare => self.preparings(heap, budget),
+            Stage::Empty => self.empties_in(heap),
+        }
+    }
+
+    /// Returns how many parts empty pages: one for each page that was chosen.
+    fn empties_in(&self, heap: &Heap) -> u64
+        ensures value { result ≡ min (length self.now.chosen) heap.now.store.count }
+        ensures range { result < 2 ^ 61 }
+    {
+        (self.chosen.len() as u64).min(u64::from(heap.memory().page_count()))
+    }
+
+    /// Returns how many parts prepare frames.
+    fn preparings(&self, heap: &Heap, budget: u32) -> u64
+        ensures value { result ≡ preparings budget self.now heap.now }
+        ensures range { result < 2 ^ 61 }
+    {
+        parts_for(self.frames, frames_by(budget, heap.config().words))
+    }
+
+    /// Returns whether as many parts have prepared frames as are to.
+    fn is_prepared(&self, heap: &Heap, budget: u32) -> bool
+        ensures { result ≡ nat_le (preparings budget self.now heap.now) self.now.next }
+    {
+        self.preparings(heap, budget) <= u64::from(self.next)
+    }
+
+    /// Continues with another stage, from its beginning.
     fn begin(&mut self, stage: Stage)
         ensures { self.new ≡ at_stage stage self.old.chosen }
     {
         self.stage = stage;
         self.next = 0;
+        self.frames = 0;
         self.found.clear();
     }
 
-    /// Enters a page that was found, and goes on with the next one.
+    /// Continues with the preparing of frames for the pages that were found.
+    fn begin_preparing(&mut self, heap: &Heap)
+        ensures { self.new ≡ preparing heap.now self.old }
+    {
+        let frames = frames_for(heap, &self.found);
+        self.stage = Stage::Prepare;
+        self.next = 0;
+        self.frames = frames;
+    }
+
+    /// Continues without the preparing of more frames.
+    fn prepare_none(&mut self)
+        ensures { self.new ≡ record self.old { frames = 0 } }
+    {
+        self.frames = 0;
+    }
+
+    /// Adds a page that was found, and continues with the next one.
     fn enter(&mut self, page: (u64, u32), next: u32) -> Result<(), AllocError>
         ensures { IfOk result (λ done. self.new ≡ entered page next self.old) }
     {
@@ -96,7 +165,7 @@ impl Parts {
         Ok(())
     }
 
-    /// Goes on with the next page.
+    /// Continues with the next page.
     fn skip(&mut self, next: u32)
         ensures { self.new ≡ record self.old { next = next } }
     {
@@ -119,8 +188,8 @@ impl Parts {
         }
     }
 
-    /// Measures at most so many pages. True where all are measured.
-    fn measure(&mut self, heap: &Heap, percent: u32, most: u32) -> Result<bool, AllocError>
+    /// Measures at most `most` pages. Returns true if all are measured.
+    fn measure(&mut self, heap: &Heap, percent: u32, most: u64) -> Result<bool, AllocError>
         ensures { IfOk result (λ all. Measures heap.now percent most self.old all self.new) }
     {
         for _done in 0..most {
@@ -132,28 +201,27 @@ impl Parts {
         Ok(false)
     }
 
-    /// Chooses of the pages that were found those with the fewest live words, as many as a budget allows and there is
-    /// room for.
-    fn choose(&mut self, alloc: Global, heap: &Heap, budget: u32) -> Result<Vec<u32>, AllocError>
-        ensures chosen { IfOk result (λ pages. IsChosen heap.now budget self.old.found pages.items) }
+    /// Chooses those of the found pages with the fewest live words, as many as there is space for, except a
+    /// sixteenth of those with live objects.
+    fn choose(&mut self, alloc: Global, heap: &Heap) -> Result<Vec<u32>, AllocError>
+        ensures chosen { IfOk result (λ pages. IsChosen heap.now self.old.found pages.items) }
         ensures kept { IfOk result (λ pages. self.new.chosen ≡ pages.items) }
     {
         self.found.sort()?;
-        heap.law();
-        let dead = dead_in(budget, heap.config().words);
-        let pages = fitting(alloc, heap, first_of(&self.found, dead, pages_in(budget)))?;
+        let fitting = fitting(alloc, heap, &self.found)?;
+        let pages = Vec::from_slice(alloc, most_of(&fitting, dead_count(&self.found)))?;
         self.chosen = Vec::from_slice(alloc, &pages)?;
         Ok(pages)
     }
 
-    /// The page that is emptied next, if one is left.
+    /// Returns the page that is emptied next, if one is left.
     fn next_page(&self) -> Option<u32>
         ensures { result ≡ slice_get self.now.chosen self.now.next }
     {
         Some(*self.chosen.get(self.next as usize)?)
     }
 
-    /// That page was emptied.
+    /// Counts that page as emptied, or a part that has prepared frames.
     fn pass(&mut self)
         ensures { self.new ≡ passed self.old }
     {
@@ -161,69 +229,24 @@ impl Parts {
     }
 }
 
-/// Returns the place of the first page that has live objects.
-fn first_live(pages: &[(u64, u32)]) -> Option<usize>
-    ensures { result ≡ position has_live pages.now }
+/// Returns how many scans of `budget` objects all words in use take, if an object has eight words.
+fn scans_in(heap: &Heap, budget: u32) -> u64
+    ensures value { result ≡ in_use heap.now * heap.now.config.words / 8 / max budget 1 }
+    ensures range { result < 2 ^ 61 }
 {
-    pages.iter().position(|page| page.0 > 0)
+    u64::from(in_use(heap)) * u64::from(heap.config().words) / 8 / u64::from(budget.max(1))
 }
 
-/// Returns how many pages come first that have no live object.
-fn dead_count(pages: &[(u64, u32)]) -> usize
-    ensures value { result ≡ dead_count pages.now }
-    ensures range { result ≤ length pages.now }
+/// Returns how many pages a part with a budget of `budget` objects measures: as many as have 64 words for each of these,
+/// and one more.
+fn pages_in(heap: &Heap, budget: u32) -> u64
+    ensures value { result ≡ pages_in budget heap.now.config.words }
+    ensures least { 0 < result }
 {
-    first_live(pages).unwrap_or(pages.len())
+    u64::from(budget) * 64 / u64::from(heap.config().words.max(1)) + 1
 }
 
-/// Returns the first pages: at most `dead` without live objects, and at most `most` others.
-fn first_of(pages: &[(u64, u32)], dead: u64, most: u32) -> &[(u64, u32)]
-    ensures { result.now ≡ take (min (dead_count pages.now) dead + most) pages.now }
-{
-    let dead = dead_count(pages).min(dead as usize);
-    let count = dead + (pages.len() - dead).min(most as usize);
-    &pages[..count]
-}
-
-/// The longest beginning of pages for which there is room.
-fn fitting(alloc: Global, heap: &Heap, pages: &[(u64, u32)]) -> Result<Vec<u32>, AllocError>
-    ensures { IfOk result (λ chosen. IsFitting heap.now (map page_of pages.now) chosen.items) }
-{
-    heap.law();
-    let room = room(heap);
-    let mut chosen = Vec::new(alloc);
-    let mut packing = first_packing();
-    for index in 0..pages.len() {
-        let page = pages[index].1;
-        let Some(behind) = packed_page(heap, page, packing) else {
-            return Ok(chosen);
-        };
-        if behind.count > u64::from(room) {
-            return Ok(chosen);
-        }
-        packing = behind;
-        chosen.push(page)?;
-    }
-    Ok(chosen)
-}
-
-/// How many pages a part with a budget of so many objects measures or chooses.
-fn pages_in(budget: u32) -> u32
-    ensures { result ≡ pages_in budget }
-{
-    budget / 64 + 1
-}
-
-/// Returns how many pages without live objects a part protects at most, by its budget in objects and the words of a
-/// page: to protect one takes time in proportion to its live bitmap.
-fn dead_in(budget: u32, words: u32) -> u64
-    requires { 0 < words }
-    ensures { result ≡ dead_in budget words }
-{
-    u64::from(budget) * 4096 / u64::from(words) + 1
-}
-
-/// Whether some page is being emptied, and has memory.
+/// Returns whether some page is being emptied, and has memory.
 fn has_from(pages: &[Page]) -> bool
     ensures { result ≡ has_from pages.now }
 {
@@ -232,15 +255,15 @@ fn has_from(pages: &[Page]) -> bool
         .any(|page| matches!(page.state, PageState::From))
 }
 
-/// Whether nothing is left of a collection.
+/// Returns whether nothing is left of a collection.
 fn has_ended(heap: &Heap) -> bool
     ensures { result ≡ true → HasEnded heap.now }
 {
     may_start_mark(heap.phase()) && heap.sides().uncopied() == 0 && !has_from(heap.memory().pages())
 }
 
-/// Registers that name protected pages are corrected, at the end of each part. True where it was the last one,
-/// and nothing is left of the collection.
+/// Corrects registers that name protected pages, at the end of each part. Returns true if it was the last one, and
+/// nothing is left of the collection.
 fn end_part(heap: &mut ManagedHeap, last: bool) -> bool
     ensures goes { Goes IsScrub heap.old heap.new }
     ensures scrubbed { is_protect_crossing heap.old.phase ≡ false → AreScrubbed heap.new }
@@ -251,7 +274,7 @@ fn end_part(heap: &mut ManagedHeap, last: bool) -> bool
     if last { has_ended(heap.heap()) } else { false }
 }
 
-/// A portion of the mark.
+/// Does a quantum of the mark.
 fn mark_part(heap: &mut ManagedHeap, parts: &mut Parts, budget: u32) -> Result<bool, Refusal>
     ensures { MarksOn parts.old heap.old result parts.new heap.new }
 {
@@ -265,8 +288,8 @@ fn mark_part(heap: &mut ManagedHeap, parts: &mut Parts, budget: u32) -> Result<b
     }
 }
 
-/// What comes of a refusal to protect pages: where memory was refused, it is told so; else the choice is out of
-/// date, as a whole collection came between, and the next part begins anew.
+/// Handles an error of the protection of pages: returns it if out of memory; else the choice is out of date, as a
+/// complete collection came between, and the next part begins anew.
 fn begin_anew(parts: &mut Parts, refusal: Refusal) -> Result<bool, Refusal>
     ensures { TellsAnew refusal parts.old result parts.new }
 {
@@ -277,14 +300,14 @@ fn begin_anew(parts: &mut Parts, refusal: Refusal) -> Result<bool, Refusal>
     Ok(false)
 }
 
-/// Whether a refusal says that memory was refused.
+/// Returns whether an error is that of being out of memory.
 fn is_memory(refusal: &Refusal) -> bool
     ensures { result ≡ is_memory refusal.now }
 {
     matches!(*refusal, Refusal::Memory)
 }
 
-/// All threads cross behind the protection of pages.
+/// Has all threads cross after the protection of pages.
 fn cross_part(heap: &mut ManagedHeap) -> Result<bool, Refusal>
     ensures { EndsCrossed heap.old result heap.new }
 {
@@ -294,7 +317,7 @@ fn cross_part(heap: &mut ManagedHeap) -> Result<bool, Refusal>
     }
 }
 
-/// The chosen pages are protected, and all threads cross.
+/// Protects the chosen pages, and has all threads cross.
 fn protect_part(heap: &mut ManagedHeap, parts: &mut Parts, pages: Vec<u32>) -> Result<bool, Refusal>
     requires { parts.old.chosen ≡ pages.items }
     ensures { ProtectsSome pages.items heap.old result parts.new heap.new }
@@ -308,16 +331,11 @@ fn protect_part(heap: &mut ManagedHeap, parts: &mut Parts, pages: Vec<u32>) -> R
     }
 }
 
-/// The choice is made, and the chosen pages are protected; where there are none the collection has ended.
-fn choose_part(
-    heap: &mut ManagedHeap,
-    alloc: Global,
-    parts: &mut Parts,
-    budget: u32,
-) -> Result<bool, Refusal>
-    ensures { ChoosesAll budget parts.old heap.old result parts.new heap.new }
+/// Chooses pages, and protects them; if there are none the collection has ended.
+fn choose_part(heap: &mut ManagedHeap, alloc: Global, parts: &mut Parts) -> Result<bool, Refusal>
+    ensures { ChoosesAll parts.old heap.old result parts.new heap.new }
 {
-    match parts.choose(alloc, heap.heap(), budget) {
+    match parts.choose(alloc, heap.heap()) {
         Ok(pages) => {
             if pages.is_empty() {
                 parts.begin(Stage::Mark);
@@ -330,24 +348,61 @@ fn choose_part(
     }
 }
 
-/// Pages are measured; where all are, the choice is made.
+/// Measures pages; if all are measured, the next part prepares frames.
 fn measure_part(
     heap: &mut ManagedHeap,
-    alloc: Global,
     parts: &mut Parts,
     percent: u32,
     budget: u32,
 ) -> Result<bool, Refusal>
-    ensures { ChoosesOn percent budget parts.old heap.old result parts.new heap.new }
+    ensures { MeasuresOn percent budget parts.old heap.old result parts.new heap.new }
 {
-    match parts.measure(heap.heap(), percent, pages_in(budget)) {
-        Ok(true) => choose_part(heap, alloc, parts, budget),
+    match parts.measure(heap.heap(), percent, pages_in(heap.heap(), budget)) {
+        Ok(true) => {
+            parts.begin_preparing(heap.heap());
+            Ok(false)
+        }
         Ok(false) => Ok(false),
         Err(_) => Err(Refusal::Memory),
     }
 }
 
-/// A page is emptied; where none is left the collection has ended.
+/// Prepares memory of some of the frames that are free, so that the part that protects finds it. If out of memory,
+/// the next part does without.
+fn prepare_part(heap: &mut ManagedHeap, parts: &mut Parts, budget: u32) -> Result<bool, Refusal>
+    ensures { PreparesSome parts.old heap.old result parts.new heap.new }
+{
+    let most = parts.frames.min(heap.heap().memory().free_frames());
+    let count = frames_by(budget, heap.heap().config().words) + 1;
+    match prepare_some(heap, most, count) {
+        Ok(()) => {
+            parts.pass();
+            Ok(false)
+        }
+        Err(_) => {
+            parts.prepare_none();
+            Err(Refusal::Memory)
+        }
+    }
+}
+
+/// Prepares frames; if that is done, chooses pages and protects them.
+fn prepare_or_choose(
+    heap: &mut ManagedHeap,
+    alloc: Global,
+    parts: &mut Parts,
+    budget: u32,
+) -> Result<bool, Refusal>
+    ensures { PreparesOn budget parts.old heap.old result parts.new heap.new }
+{
+    if parts.is_prepared(heap.heap(), budget) {
+        choose_part(heap, alloc, parts)
+    } else {
+        prepare_part(heap, parts, budget)
+    }
+}
+
+/// Empties a page; if none is left the collection has ended.
 fn empty_part(heap: &mut ManagedHeap, parts: &mut Parts) -> Result<bool, Refusal>
     ensures { EmptiesOn parts.old heap.old result parts.new heap.new }
 {
@@ -366,7 +421,7 @@ fn empty_part(heap: &mut ManagedHeap, parts: &mut Parts) -> Result<bool, Refusal
     }
 }
 
-/// What the next part of a collection does. True where it is the last one.
+/// Does the work of the next part of a collection. Returns true if it is the last one.
 fn next_part(
     heap: &mut ManagedHeap,
     alloc: Global,
@@ -378,12 +433,13 @@ fn next_part(
 {
     match parts.stage {
         Stage::Mark => mark_part(heap, parts, budget),
-        Stage::Choose => measure_part(heap, alloc, parts, percent, budget),
+        Stage::Choose => measure_part(heap, parts, percent, budget),
+        Stage::Prepare => prepare_or_choose(heap, alloc, parts, budget),
         Stage::Empty => empty_part(heap, parts),
     }
 }
 
-/// The next part of a collection.
+/// Does the next part of a collection.
 pub(crate) fn collect_some(
     heap: &mut ManagedHeap,
     alloc: Global,

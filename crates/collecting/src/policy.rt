@@ -7,15 +7,15 @@ use heap::Config;
 use std::error::Error;
 use std::fmt;
 
-/// How large buffers are, when a heap is collected for them, and which pages are emptied then.
+/// The size of buffers, when a heap is collected for them, and which pages are emptied then.
 #[derive(Clone, Copy, Debug, PartialEq, Eq)]
 pub struct Policy {
-    /// How many words a fresh buffer has: 1 to the words of a page.
+    /// The words of a fresh buffer: 1 to the words of a page.
     pub words: u32,
-    /// A heap in which at most so many frames are free is collected before a thread gets a fresh buffer: 0 to the
-    /// heap's frames.
+    /// A heap in which at most this many frames are free is collected before a thread gets a fresh buffer, if enough
+    /// pages were opened since the last mark ended: 0 to the heap's frames.
     pub free: u32,
-    /// Pages of which at most so many words of a hundred are live are emptied: 0 to 100.
+    /// Pages of which at most this many words of a hundred are live are emptied: 0 to 100.
     pub percent: u32,
 }
 
@@ -43,9 +43,9 @@ impl fmt::Display for PolicyFault {
 impl Error for PolicyFault {}
 
 impl Policy {
-    /// The usual policy of a heap with pages of so many words and so many frames: buffers of a page, a
-    /// collection where at most an eighth of the frames is free, or one, and pages emptied of which at
-    /// most three quarters are live.
+    /// Returns the usual policy of a heap with pages of `words` and this many frames: buffers of a page, a
+    /// collection if at most an eighth of the frames is free, or one, and pages emptied of which at most three
+    /// quarters are live.
     pub fn usual(words: u32, frames: u32) -> Policy
         ensures words { result.words ≡ words }
         ensures free { result.free ≡ (if frames / 8 == 0 then 1 else frames / 8) }

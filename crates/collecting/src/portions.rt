@@ -1,4 +1,4 @@
-//! Portions of a collection, each of bounded work.
+//! Operations of a collection, each of bounded work.
 
 ghost use Rattle.std.specs.Prelude.{◌≡◌, ◌≢◌, true, None, Ok, MatchBool};
 ghost use Rattle.drains.specs.Drains.{IsReady};
@@ -15,28 +15,28 @@ use drains::is_ready;
 use managed::ManagedHeap;
 use model::{Actor, PageList, Phase, Refusal, Step};
 
-/// Whether a mark may start.
+/// Returns whether a mark may start.
 pub(crate) fn may_start_mark(phase: Phase) -> bool
     ensures { result ≡ may_start_mark phase }
 {
     matches!(phase, Phase::Idle | Phase::Relocating)
 }
 
-/// All threads cross the open checkpoint.
+/// Has all threads cross the open checkpoint.
 pub(crate) fn cross(heap: &mut ManagedHeap) -> Result<(), Refusal>
     ensures { EndsCrossing heap.old result heap.new }
 {
     heap.cross_all(0)
 }
 
-/// The same.
+/// Has all threads cross the open checkpoint.
 fn cross_open(heap: &mut ManagedHeap) -> Result<(), Refusal>
     ensures { EndsPortion heap.old result heap.new }
 {
     cross(heap)
 }
 
-/// A mark begins, and all threads cross.
+/// Begins a mark, and has all threads cross.
 fn begin_mark(heap: &mut ManagedHeap) -> Result<(), Refusal>
     requires { may_start_mark heap.old.phase ≡ true }
     ensures { EndsPortion heap.old result heap.new }
@@ -47,7 +47,7 @@ fn begin_mark(heap: &mut ManagedHeap) -> Result<(), Refusal>
     }
 }
 
-/// A mark begins; or all threads cross the open checkpoint.
+/// Begins a mark; or has all threads cross the open checkpoint.
 fn begin_or_cross(heap: &mut ManagedHeap) -> Result<(), Refusal>
     ensures { EndsPortion heap.old result heap.new }
 {
@@ -58,7 +58,7 @@ fn begin_or_cross(heap: &mut ManagedHeap) -> Result<(), Refusal>
     }
 }
 
-/// A mark ends. It is true.
+/// Ends a mark. Returns true.
 fn end_mark(heap: &mut ManagedHeap) -> Result<bool, Refusal>
     requires nothing { next_drain heap.old WORKER ≡ None }
     requires phase { heap.old.phase ≡ phases.Scanning }
@@ -70,12 +70,12 @@ fn end_mark(heap: &mut ManagedHeap) -> Result<bool, Refusal>
     }
 }
 
-/// As many references are scanned for each object of a budget, before a portion ends: so an object of
-/// 1,023 references takes as much of a budget as 16 others.
+/// How many references are scanned for each object of a budget before a quantum ends: so an object of 1,023
+/// references takes as much of a budget as 16 others.
 const REFERENCES: u64 = 64;
 
-/// At most so many objects are scanned, and references by the budget, by a worker that is ready for that.
-/// True where nothing is left.
+/// Scans at most `budget` objects, and references by the budget, by a worker that is ready for that. Returns true if
+/// nothing is left.
 fn scan_ready(heap: &mut ManagedHeap, budget: u64) -> Result<bool, Refusal>
     requires { IsReady heap.old WORKER }
     ensures { EndsScanning heap.old result heap.new }
@@ -88,8 +88,8 @@ fn scan_ready(heap: &mut ManagedHeap, budget: u64) -> Result<bool, Refusal>
     }
 }
 
-/// What keeps the worker from scanning objects whole is done, a part of it. Where nothing of that is left, no
-/// scan would be accepted: it is refused as the next one is, or true where nothing is left.
+/// Does a part of what keeps the worker from scanning complete objects. If nothing of that is left, no scan would be
+/// accepted: it fails as the next one does, or returns true if nothing is left.
 fn scan_unready(heap: &mut ManagedHeap, budget: u64) -> Result<bool, Refusal>
     ensures { EndsScanning heap.old result heap.new }
 {
@@ -100,8 +100,8 @@ fn scan_unready(heap: &mut ManagedHeap, budget: u64) -> Result<bool, Refusal>
     }
 }
 
-/// At most so many objects are scanned; or, before that, the object that the worker has, or one page is
-/// copied of which objects are still to be copied. True where nothing is left.
+/// Scans at most `budget` objects; or, before that, the object that the worker has, or copies one page that has
+/// uncopied objects. Returns true if nothing is left.
 fn scan_some(heap: &mut ManagedHeap, budget: u64) -> Result<bool, Refusal>
     ensures { EndsScanning heap.old result heap.new }
 {
@@ -112,7 +112,7 @@ fn scan_some(heap: &mut ManagedHeap, budget: u64) -> Result<bool, Refusal>
     }
 }
 
-/// The same; where nothing is left the mark ends, and it is true.
+/// As `scan_some`; if nothing is left it ends the mark, and returns true.
 fn scan_or_end(heap: &mut ManagedHeap, budget: u64) -> Result<bool, Refusal>
     requires { heap.old.phase ≡ phases.Scanning }
     ensures { EndsMarking heap.old result heap.new }
@@ -124,14 +124,14 @@ fn scan_or_end(heap: &mut ManagedHeap, budget: u64) -> Result<bool, Refusal>
     }
 }
 
-/// Whether a mark runs that all threads have crossed.
+/// Returns whether a mark runs that all threads have crossed.
 fn is_scanning(phase: Phase) -> bool
     ensures { MatchBool result (phase ≡ phases.Scanning) (phase ≢ phases.Scanning) }
 {
     matches!(phase, Phase::Scanning)
 }
 
-/// A portion of a mark. True where the mark has ended.
+/// Does a quantum of a mark. Returns true if the mark has ended.
 pub(crate) fn mark_some(heap: &mut ManagedHeap, budget: u64) -> Result<bool, Refusal>
     ensures { EndsMarking heap.old result heap.new }
 {
@@ -144,7 +144,7 @@ pub(crate) fn mark_some(heap: &mut ManagedHeap, budget: u64) -> Result<bool, Ref
     }
 }
 
-/// Pages are protected.
+/// Protects pages.
 pub(crate) fn protect(heap: &mut ManagedHeap, pages: Vec<u32>) -> Result<(), Refusal>
     ensures { EndsProtecting heap.old pages.items result heap.new }
 {
@@ -154,7 +154,7 @@ pub(crate) fn protect(heap: &mut ManagedHeap, pages: Vec<u32>) -> Result<(), Ref
     }
 }
 
-/// A page is emptied, where it is protected, when all threads have crossed.
+/// Empties a page, if it is protected, when all threads have crossed.
 fn empty_crossed(heap: &mut ManagedHeap, page: u32) -> Result<(), Refusal>
     requires { all_crossed heap.old ≡ Ok tt }
     ensures { EndsLeft heap.old page result heap.new }
@@ -163,7 +163,7 @@ fn empty_crossed(heap: &mut ManagedHeap, page: u32) -> Result<(), Refusal>
     settle_page(heap, page)
 }
 
-/// All threads cross, and a page is emptied, where it is protected.
+/// Has all threads cross, and empties a page, if it is protected.
 pub(crate) fn empty_one(heap: &mut ManagedHeap, page: u32) -> Result<(), Refusal>
     ensures { EndsOne heap.old page result heap.new }
 {

@@ -1,4 +1,4 @@
-//! Fresh buffers, for which the heap is collected where frames run low.
+//! Fresh buffers, for which the heap is collected if frames run low.
 
 ghost use Rattle.std.specs.Prelude.{◌≡◌};
 ghost use Rattle.collecting.specs.Collections.{lacks_room};
@@ -9,20 +9,21 @@ ghost use Rattle.collecting.specs.Rooms.{EndsMaking, HasMarkedSince, IsAny, Refi
 
 use crate::counting::{Cause, Counters, collect_counted};
 use crate::cycles::mark_whole;
+use crate::low::are_low;
 use crate::policy::Policy;
 use cycle::Mutating;
 use managed::ManagedHeap;
 use model::{Buffer, Refusal};
 use std::alloc::Global;
 
-/// Whether a refusal says that there are too few frames or pages.
+/// Returns whether an error says that there are too few frames or pages.
 fn lacks_room(refusal: &Refusal) -> bool
     ensures { result ≡ lacks_room refusal.now }
 {
     matches!(*refusal, Refusal::NoFrames { .. } | Refusal::NoPages)
 }
 
-/// The buffer that the thread has is given back, if any, and one is taken.
+/// Gives back the buffer that the thread has, if any, and takes one.
 fn take(heap: &mut ManagedHeap, policy: Policy, thread: u32) -> Result<Buffer, Refusal>
     ensures takes { RefillsBy IsAny thread policy.words policy.percent heap.old result heap.new }
     ensures only { TakesOnly thread heap.old heap.new }
@@ -31,8 +32,8 @@ fn take(heap: &mut ManagedHeap, policy: Policy, thread: u32) -> Result<Buffer, R
     heap.take(thread, policy.words)
 }
 
-/// A mark runs, and the buffer is taken: the numbers of pages that a collection has emptied are free at the
-/// end of the next mark alone.
+/// Runs a mark, and takes the buffer: the numbers of pages that a collection has emptied are free only at the end of
+/// the next mark.
 fn mark_and_take(heap: &mut ManagedHeap, policy: Policy, thread: u32) -> Result<Buffer, Refusal>
     ensures { RefillsBy (HasMarkedSince thread) thread policy.words policy.percent heap.old result heap.new }
 {
@@ -42,7 +43,7 @@ fn mark_and_take(heap: &mut ManagedHeap, policy: Policy, thread: u32) -> Result<
     }
 }
 
-/// The buffer is taken; where there is no room for it a mark runs before.
+/// Takes the buffer; if there is no space for it a mark runs before.
 fn take_or_mark(heap: &mut ManagedHeap, policy: Policy, thread: u32) -> Result<Buffer, Refusal>
     ensures { RefillsBy (HasMarkedSince thread) thread policy.words policy.percent heap.old result heap.new }
 {
@@ -58,7 +59,7 @@ fn take_or_mark(heap: &mut ManagedHeap, policy: Policy, thread: u32) -> Result<B
     }
 }
 
-/// The heap is collected, and the buffer is taken.
+/// Collects the heap, and takes the buffer.
 fn collect_and_take(
     heap: &mut ManagedHeap,
     alloc: Global,
@@ -76,7 +77,7 @@ fn collect_and_take(
     }
 }
 
-/// The buffer is taken; where there is no room for it the heap is collected before.
+/// Takes the buffer; if there is no space for it the heap is collected before.
 fn take_or_collect(
     heap: &mut ManagedHeap,
     alloc: Global,
@@ -99,7 +100,7 @@ fn take_or_collect(
     }
 }
 
-/// The buffer is taken; where frames are low, or where there is no room for it, the heap is collected before.
+/// Takes the buffer; if frames are low, or there is no space for it, the heap is collected before.
 fn take_by_policy(
     heap: &mut ManagedHeap,
     alloc: Global,
@@ -111,14 +112,14 @@ fn take_by_policy(
     ensures counts { CountsPolicy thread policy.words policy.free policy.percent heap.old counters.old heap.new
         counters.new }
 {
-    if heap.heap().memory().free_frames() <= policy.free {
+    if are_low(heap.heap(), policy.free) {
         collect_and_take(heap, alloc, counters, Cause::Policy, policy, thread)
     } else {
         take_or_collect(heap, alloc, counters, policy, thread)
     }
 }
 
-/// The thread gives back the buffer that it has, if any.
+/// Gives back the buffer that the thread has, if any.
 fn give(heap: &mut ManagedHeap, thread: u32)
     ensures gives { Refills thread heap.old heap.new }
     ensures only { TakesOnly thread heap.old heap.new }
@@ -126,7 +127,7 @@ fn give(heap: &mut ManagedHeap, thread: u32)
     let _ = heap.give_back(thread);
 }
 
-/// The thread gives back the buffer that it has, if any, and gets a fresh one; a collection for it is counted.
+/// Gives back the buffer that the thread has, if any, and gets it a fresh one; counts a collection for it.
 pub(crate) fn refill_counted(
     heap: &mut ManagedHeap,
     alloc: Global,
@@ -144,7 +145,7 @@ pub(crate) fn refill_counted(
     result
 }
 
-/// The same, and nobody counts.
+/// As `refill_counted`, without counting.
 pub(crate) fn refill(
     heap: &mut ManagedHeap,
     alloc: Global,
@@ -157,7 +158,7 @@ pub(crate) fn refill(
     refill_counted(heap, alloc, &mut counters, policy, thread)
 }
 
-/// An object is made, behind a fresh buffer; a collection for it is counted.
+/// Gets a fresh buffer, and makes an object; counts a collection for it.
 #[cold]
 #[inline(never)]
 fn refill_and_make_counted(
@@ -178,7 +179,7 @@ fn refill_and_make_counted(
     }
 }
 
-/// The same, and nobody counts.
+/// As `refill_and_make_counted`, without counting.
 #[cold]
 #[inline(never)]
 fn refill_and_make(
@@ -195,7 +196,7 @@ fn refill_and_make(
     refill_and_make_counted(heap, alloc, &mut counters, policy, thread, target, layout)
 }
 
-/// An object is made; where the thread's buffer has no room for it, it gets a fresh one before.
+/// Makes an object; if the thread's buffer has no space for it, it gets a fresh one before.
 #[inline(always)]
 pub(crate) fn make(
     heap: &mut ManagedHeap,
@@ -214,7 +215,7 @@ pub(crate) fn make(
     }
 }
 
-/// Makes an object; a collection for it is counted.
+/// Makes an object; counts a collection for it.
 #[inline(always)]
 pub(crate) fn make_counted(
     heap: &mut ManagedHeap,

@@ -1,4 +1,4 @@
-//! What a register names.
+//! The objects that registers name.
 
 ghost use Rattle.std.specs.Prelude.{◌≡◌};
 ghost use Rattle.collecting.specs.Objects.{header_of, seen};
@@ -8,7 +8,7 @@ use layout::{birth_of, layout_of};
 use managed::ManagedHeap;
 use model::Refusal;
 
-/// An object, as its header tells it.
+/// An object, by its header.
 #[derive(Clone, Copy, Debug, PartialEq, Eq)]
 pub struct Object {
     /// Its birth number: how many were born before it. It stays when the object moves.
@@ -21,8 +21,8 @@ pub struct Object {
     pub nums: u16,
 }
 
-/// The object that a register of a thread names. Refused as `Null`, `Stall` and `Stale` where the register may
-/// not be used, and as `BadIndex` where no object stands there.
+/// Returns the object that a register of a thread names. Fails with `Null`, `Stall` or `Stale` if the register may
+/// not be used, and with `BadIndex` if no object is there.
 #[inline(always)]
 #[tactic(auto, unfolding(crate::specs::Objects::seen))]
 pub(crate) fn look(heap: &ManagedHeap, thread: u32, register: u32) -> Result<Object, Refusal>
@@ -41,7 +41,7 @@ pub(crate) fn look(heap: &ManagedHeap, thread: u32, register: u32) -> Result<Obj
     })
 }
 
-/// The header of the object that a register of a thread names.
+/// Returns the header of the object that a register of a thread names.
 #[inline(always)]
 fn header_of(heap: &ManagedHeap, thread: u32, register: u32) -> Result<u64, Refusal>
     ensures { result ≡ header_of heap.now thread register }
@@ -52,7 +52,7 @@ fn header_of(heap: &ManagedHeap, thread: u32, register: u32) -> Result<u64, Refu
     }
 }
 
-/// The same, by the tests one after another.
+/// As `header_of`, by the tests one after another.
 #[cold]
 #[inline(never)]
 #[tactic(auto, unfolding(crate::specs::Objects::header_of))]

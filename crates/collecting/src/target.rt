@@ -5,29 +5,29 @@ ghost use Rattle.collecting.specs.Targets.{followed, grown, is_behind, larger};
 
 use crate::policy::Policy;
 
-/// How many frames a heap may use until it is collected: those that it used after its last collection, and so many of
-/// a hundred besides. So its memory follows what lives in it, and not what it may use at most.
+/// How many frames a heap may use until it is collected: those that it used after its last collection, and `growth`
+/// percent more. So its memory follows what lives in it, and not what it may use at most.
 #[derive(Clone, Copy, Debug, PartialEq, Eq)]
 pub struct Target {
     /// The frames that it may use in any case.
     least: u32,
-    /// How many it may use besides, of a hundred that it used after its last collection.
+    /// How many it may use in addition, for each hundred that it used after its last collection.
     growth: u32,
     /// How many it may use.
     frames: u32,
-    /// How many it used when the target was last told.
+    /// How many it used at the last call of `follow`.
     used: u32,
 }
 
-/// The larger of two numbers.
+/// Returns the larger of two numbers.
 fn larger(one: u32, other: u32) -> u32
     ensures { result ≡ larger one other }
 {
     if one < other { other } else { one }
 }
 
-/// How many frames may be used where so many are used after a collection: `growth` of a hundred besides, at least one,
-/// and at least `least` in all.
+/// Returns how many frames may be used if `used` are used after a collection: `growth` percent more, at least one
+/// more, and at least `least` in all.
 fn grown(least: u32, growth: u32, used: u32) -> u32
     ensures { result ≡ grown least growth used }
 {
@@ -42,8 +42,8 @@ fn grown(least: u32, growth: u32, used: u32) -> u32
 }
 
 impl Target {
-    /// A heap may use `least` frames, and after a collection `growth` frames for a hundred that it uses then, besides
-    /// them: 100 lets it double.
+    /// Makes a target by which a heap may use `least` frames, and after a collection `growth` percent more than it
+    /// uses then: 100 lets it double.
     pub fn new(least: u32, growth: u32) -> Target
         ensures { result.frames ≡ least }
     {
@@ -55,22 +55,23 @@ impl Target {
         }
     }
 
-    /// How many frames the heap may use until it is collected.
+    /// Returns how many frames the heap may use until it is collected.
     pub fn frames(&self) -> u32
         ensures { result ≡ self.now.frames }
     {
         self.frames
     }
 
-    /// At how many free frames a heap of `most` frames is collected where a policy says `free`: at more where it uses as
-    /// many frames as this target allows then.
+    /// Returns at how many free frames a heap of `most` frames is collected if a policy has `free`: at more if it
+    /// uses as many frames as this target allows then.
     pub fn free(&self, free: u32, most: u32) -> u32
         ensures { result ≡ larger free (most - self.now.frames) }
     {
         larger(free, most.saturating_sub(self.frames))
     }
 
-    /// The policy by which a heap of `most` frames is also collected where it uses as many frames as this target allows.
+    /// Returns the policy by which a heap of `most` frames is also collected if it uses as many frames as this
+    /// target allows.
     pub fn policy(&self, policy: Policy, most: u32) -> Policy
         ensures words { result.words ≡ policy.words }
         ensures percent { result.percent ≡ policy.percent }
@@ -83,8 +84,8 @@ impl Target {
         }
     }
 
-    /// Tells how many frames are used now. A collection has come where they are fewer than they were, or more than they
-    /// may be: the target is set then, by those that are used. Returns whether it was.
+    /// Records how many frames are used now. If they are fewer than they were, or more than they may be, the heap
+    /// was collected: the target is set then, by those that are used. Returns whether it was.
     pub fn follow(&mut self, used: u32) -> bool
         ensures set { result ≡ is_behind self.old.used self.old.frames used }
         ensures frames { self.new.frames ≡ followed self.old.least self.old.growth self.old.used self.old.frames used }

@@ -1,4 +1,4 @@
--- A drain comes to its end within the steps that its history has room for, and one more.
+-- A drain ends within the steps that its history has space for, and one more.
 use Rattle.std.proofs.Common.{◌≡◌, ℕ, zero, suc, ◌+◌, ◌<◌, ◌≤◌, Bool, true, false, [], ◌∷◌, length, Option}
 use Rattle.std.proofs.Common.{Some, None, refl, ap, sym, subst, ◌∙◌, arith, length-append}
 use Rattle.std.specs.Prelude.{Result, Ok, Err, position, is_some, if◌then◌else◌, ◌*◌, ◌&&◌, ◌||◌, not, nat_lt}

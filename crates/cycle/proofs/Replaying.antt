@@ -1,4 +1,4 @@
--- The law of a book, from one entry to the next.
+-- The invariant of a recorded heap, from one entry to the next.
 use Rattle.std.proofs.Common.{◌≡◌, List, [], ◌∷◌, ◌++◌, refl, sym, subst, ◌≤◌, false, length, arith, length-append}
 use Rattle.std.specs.Prelude.{Result, Ok, Err, Some, IfSome}
 use Rattle.std.proofs.lemmas.Bool.{leb-false}

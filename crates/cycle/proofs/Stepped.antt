@@ -1,4 +1,4 @@
--- What a call for a step did, told of its reply.
+-- The effect of a call for a step, by its reply.
 use Rattle.std.proofs.Common.{◌≡◌, ◌⊎◌, inl, inr, refl}
 use Rattle.std.specs.Prelude.{Ok, Err}
 use Rattle.model.specs.declared.steps.Answer.{Answer}

@@ -1,4 +1,4 @@
--- No load asks for more than three traps: behind one that marks none is due.
+-- No load needs more than three traps: after one that marks none is due.
 use Rattle.std.proofs.Common.{◌≡◌, ◌⊎◌, inl, inr, ℕ, suc, ◌+◌, Bool, true, false, not, Option, Some, None, List, ◌∷◌}
 use Rattle.std.proofs.Common.{arith}
 use Rattle.std.proofs.Common.{refl, ap, sym, subst, ◌∙◌}

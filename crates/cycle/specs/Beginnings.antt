@@ -1,11 +1,11 @@
--- Beginnings: what a call of several steps has done where memory was refused behind some of them.
+-- Beginnings: the steps that are done if a call of several steps runs out of memory after some of them.
 use Rattle.std.specs.Prelude.{◌≡◌, List, [], ◌∷◌, ◌++◌, Result, Ok, Err}
 use Rattle.model.specs.declared.steps.Refusal.{Refusal}
 use Rattle.model.specs.declared.steps.Refusal.TheVariants as refusals
 use Rattle.entries.specs.declared.entry.Entry.{Entry}
 use Rattle.cycle.specs.Books.{BookState, Reply, act_outcome}
 
--- these steps, each accepted with its answer, lead from one book to another
+-- these steps, each accepted with its answer, lead from one recorded heap to another
 abbrev pub Accepts : BookState → List Entry → BookState → Type 0
 Accepts b [] c = c ≡ b
 Accepts b (e ∷ es) c = (d : BookState) × (act_outcome b e.actor e.step ≡ Ok (d, e.answer)) × Accepts d es c
@@ -15,9 +15,9 @@ abbrev pub replies_to : List Entry → List Reply
 replies_to [] = []
 replies_to (e ∷ es) = Ok e.answer ∷ replies_to es
 
--- A beginning of steps, all of which would leave the book `whole`. Those that were done are accepted one after another,
--- and lead from the old book to the new one. They are the first ones of all: the history of the whole goes on from that
--- of the new one. And all that was told is their replies, behind those before.
+-- A beginning of steps, all of which would leave the recorded heap `whole`. Those that were done are accepted one
+-- after another, and lead from the old one to the new one. They are the first ones of all: the history of `whole`
+-- continues that of the new one. And their replies are appended to those before.
 pub record IsBeginning (whole old : BookState) (before : List Reply) (new : BookState) (all : List Reply) : Type 0 where
   pub steps : List Entry
   pub left : List Entry
@@ -25,7 +25,7 @@ pub record IsBeginning (whole old : BookState) (before : List Reply) (new : Book
   pub first : whole.history ≡ new.history ++ left
   pub told : all ≡ before ++ replies_to steps
 
--- anything but want of memory
+-- any result except `Memory`
 abbrev pub NotMemory : {A : Type 0} → Result A Refusal → Type 0
 NotMemory (Err refusals.Memory) = ⊥
 NotMemory result = Unit {0}

@@ -1,4 +1,4 @@
--- Books: a heap and the history of its accepted steps.
+-- Recorded heaps: a heap and the history of its accepted steps.
 use Rattle.std.specs.Prelude.{◌≡◌, Bool, false, List, [], ◌∷◌, ◌++◌, length, nat_le, Result, Ok, Err, Some, None}
 use Rattle.std.specs.Prelude.{if◌then◌else◌, ◌⊎◌}
 use Rattle.model.specs.declared.config.Config.{Config}
@@ -16,7 +16,7 @@ use Rattle.heap.specs.declared.fault.NewFault.{NewFault}
 use Rattle.heap.specs.declared.fault.NewFault.TheVariants as faults
 use Rattle.entries.specs.declared.entry.Entry.{Entry}
 
--- a book: its heap, and its accepted steps with their answers, oldest first
+-- a recorded heap: its heap, and its accepted steps with their answers, oldest first
 pub record BookState : Type 0 where
   pub heap : HeapState
   pub history : List Entry
@@ -29,7 +29,7 @@ is_full b = nat_le b.heap.config.history (length b.history)
 unfoldable pub first_book : Config → BookState
 first_book c = record { heap = first_heap c; history = [] }
 
--- making a book gives its first state, the first fault of its configuration, or want of memory
+-- making a recorded heap returns its first state, the first fault of its configuration, or out of memory
 abbrev pub MakesBook : Config → Result BookState NewFault → Type 0
 MakesBook c (Ok b) = (first_fault c ≡ None) × (b ≡ first_book c)
 MakesBook c (Err (faults.Config f)) = first_fault c ≡ Some f
@@ -39,22 +39,22 @@ MakesBook c (Err faults.Memory) = first_fault c ≡ None
 abbrev pub Reply : Type 0
 Reply = Result Answer Refusal
 
--- the book and the answer after a step, or why it is refused
+-- the recorded heap and the answer after a step, or why it is rejected
 abbrev pub BookOutcome : Type 0
 BookOutcome = Result (BookState × Answer) Refusal
 
--- the book after the heap's outcome: an accepted step is entered with its answer
+-- the recorded heap after the heap's outcome: an accepted step is entered with its answer
 abbrev pub enter_accepted : BookState → Actor → Step → Outcome → BookOutcome
 enter_accepted b actor step (Err e) = Err e
 enter_accepted b actor step (Ok x) =
     Ok (record { heap = x.0; history = b.history ++ record { actor = actor; step = step; answer = x.1 } ∷ [] }, x.1)
 
--- a full history refuses; else the heap's outcome, an accepted step entering the history with its answer
+-- a full history rejects the step; else the heap's outcome, an accepted step entering the history with its answer
 unfoldable pub act_outcome : BookState → Actor → Step → BookOutcome
 act_outcome b actor step =
     if is_full b then Err refusals.HistoryFull else enter_accepted b actor step (outcome b.heap actor step)
 
--- a call did what the outcome says, or, where the history is not full, memory ran out; a refused one changed nothing
+-- a call has this outcome, or, if the history is not full, memory ran out; a rejected one changed nothing
 abbrev pub Acts : BookState → Reply → BookState → BookOutcome → Type 0
 Acts old (Ok answer) new outcome = outcome ≡ Ok (new, answer)
 Acts old (Err e) new outcome = (((is_full old ≡ false) × (e ≡ refusals.Memory)) ⊎ (outcome ≡ Err e)) × (new ≡ old)

@@ -1,4 +1,4 @@
--- Steps of threads by calls that give plain values.
+-- Steps of threads by calls that return plain values.
 use Rattle.std.specs.Prelude.{ℕ, Result}
 use Rattle.model.specs.declared.steps.Actor.TheVariants.{Thread}
 use Rattle.model.specs.declared.steps.Step.{Step}
@@ -10,12 +10,12 @@ use Rattle.model.specs.Outcome.{outcome}
 use Rattle.model.specs.States.{HeapState}
 use Rattle.refinement.specs.Standing.{KeepsStanding}
 
--- a call for a thread's step, whose value stands for the answer, did what the step's outcome says; for Take, which may
--- open a page, memory for that may have run out, and then it changed nothing
+-- a call for a thread's step, whose value represents the answer, has the step's outcome; for Take, which may open a
+-- page, memory for that may have run out, and then it changed nothing
 abbrev pub DoesThread : {A : Type 0} → (A → Answer) → HeapState → ℕ → Step → Result A Refusal → HeapState → Type 0
 DoesThread answer old t step result new =
     DoesStep old step (said answer result) new (outcome old (Thread t) step)
 
--- where the heap stood for a plain heap, it does after the call, whose value is the plain heap's
+-- if the heap represented a reference model, it does after the call, whose value is the reference model's
 abbrev pub ThreadStands : {A : Type 0} → (A → Answer) → HeapState → ℕ → Step → Result A Refusal → HeapState → Type 0
 ThreadStands answer old t step result new = KeepsStanding old (Thread t) step (said answer result) new

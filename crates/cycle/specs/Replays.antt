@@ -1,4 +1,4 @@
--- The plain heap that a history makes, and the law of books.
+-- The reference model that a history makes, and the invariant of recorded heaps.
 use Rattle.std.specs.Prelude.{◌≡◌, ◌≤◌, List, [], ◌∷◌, length, Option, Some, None, IfSome, IfOk}
 use Rattle.layout.specs.declared.shape.Layout.{Layout}
 use Rattle.model.specs.declared.config.Config.{Config}
@@ -15,7 +15,7 @@ use Rattle.entries.specs.declared.entry.Entry.{Entry}
 use Rattle.cycle.specs.Books.{BookState, Reply, Acts, act_outcome}
 use Rattle.cycle.specs.Tallies.{TalliesAre}
 
--- a plain heap, and what it was as the last mark began
+-- a reference model, and what it was when the last mark began
 pub record Replayed : Type 0 where
   pub now : PlainHeap
   pub at_mark : PlainHeap
@@ -29,15 +29,15 @@ abbrev pub after_entries : List Layout → Replayed → List Entry → Replayed
 after_entries ls r [] = r
 after_entries ls r (e ∷ es) = after_entries ls (after_entry ls r e) es
 
--- before all entries: the plain heap without births
+-- before all entries: the reference model without births
 abbrev pub before_entries : Config → Replayed
 before_entries c = record { now = plain_start c; at_mark = plain_start c }
 
--- what a book's history makes of the first plain heap
+-- the reference model that the history of a recorded heap makes of the first one
 unfoldable pub replayed : BookState → Replayed
 replayed b = after_entries b.heap.config.layouts (before_entries b.heap.config) b.history
 
--- each entry's answer is what the plain heap answers there, where that says anything
+-- each entry's answer is the reference model's answer there, if that has one
 abbrev pub AnswersAre : List Layout → Replayed → List Entry → Type 0
 AnswersAre ls r [] = Unit {0}
 AnswersAre ls r (e ∷ es) =
@@ -49,12 +49,12 @@ last_entry [] = None
 last_entry (e ∷ []) = Some e
 last_entry (e ∷ d ∷ es) = last_entry (d ∷ es)
 
--- where the last step of a book has ended a mark, that has found what lives
+-- if the last step of a recorded heap has ended a mark, that mark has found what is live
 abbrev pub LastFinds : BookState → Type 0
 LastFinds b = IfSome (last_entry b.history) (λ e. Finds b.heap (replayed b).now (replayed b).at_mark e.step)
 
--- the law of a book: its heap is one, and stands for what its history makes, whose answers it gave; and each thread's
--- tally is that of its entries
+-- the invariant of a recorded heap: its heap has its own invariants, and represents the reference model of the
+-- history, whose answers it gave; and each thread's barrier counters are those of its entries
 pub record IsBook (b : BookState) : Type 0 where
   pub store : IsStore b.heap.store
   pub heap : IsHeap b.heap
@@ -64,23 +64,24 @@ pub record IsBook (b : BookState) : Type 0 where
   pub marks : LastFinds b
   pub tallies : TalliesAre b.heap b.history
 
--- what it promises: the heap stands for the plain heap of its history; no register that may be used names a page
--- without memory; and where its last step has ended a mark, all that can be reached is live, and what is live could
--- be reached as that mark began, or is born since; and the tally of each thread is what its entries make of it
+-- its promises: the heap represents the reference model of its history; no register that may be used names a page
+-- without memory; and if its last step has ended a mark, every reachable object is live, and each live object was
+-- reachable when that mark began, or is born since; and the barrier counters of each thread are those of its entries
 pub record KeepsPromises (b : BookState) : Type 0 where
   pub stands : StandsForPlain (world_of b.heap) (births_of (replayed b).now)
   pub usable : UsableHasMemory (world_of b.heap)
   pub marks : LastFinds b
   pub tallies : TalliesAre b.heap b.history
 
--- what a step with this reply promises: what its book does, and where it is accepted, that a mark that it has ended has
--- left nothing behind that can be reached, and that it has moved the phase as it may
+-- the promises of a step with this reply: those of its recorded heap, and if it is accepted, that objects that
+-- weren't copied by the end of a mark are unreachable, and that it has changed the phase as it may
 pub record StepPromises (old : BookState) (step : Step) (reply : Reply) (new : BookState) : Type 0 where
   pub book : KeepsPromises new
   pub leaves : IfOk reply (λ answer. Leaves old.heap (replayed old).now step)
   pub phase : IfOk reply (λ answer. MovesPhase old.heap step new.heap)
 
--- one reply for each step, in order, each step done on the book that the one before left, with what it promises
+-- one reply for each step, in order, each step done on the recorded heap that the previous one left, with its
+-- promises
 abbrev pub Ran : BookState → List (Actor × Step) → List Reply → BookState → Type 0
 Ran b [] [] c = c ≡ b
 Ran b (s ∷ ss) (r ∷ rs) c =

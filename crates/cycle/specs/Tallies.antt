@@ -1,4 +1,4 @@
--- What a history makes of the tallies of threads.
+-- The barrier counters of threads that a history makes.
 use Rattle.std.specs.Prelude.{◌≡◌, ℕ, ◌==◌, ◌&&◌, Bool, true, false, List, count_by, Option, Some, None}
 use Rattle.model.specs.declared.records.Counter.{Counter}
 use Rattle.model.specs.declared.records.Counter.TheVariants as counters
@@ -15,7 +15,7 @@ abbrev pub is_thread : ℕ → Actor → Bool
 is_thread t (Thread u) = u == t
 is_thread t (Worker w) = false
 
--- both are one number
+-- both are the same counter
 abbrev pub same_counter : Counter → Counter → Bool
 same_counter counters.Loads counters.Loads = true
 same_counter counters.Gc counters.Gc = true
@@ -24,16 +24,16 @@ same_counter counters.Healed counters.Healed = true
 same_counter counters.Changed counters.Changed = true
 same_counter _ _ = false
 
--- this number is raised
+-- this counter is incremented
 abbrev pub is_raised : Option Counter → Counter → Bool
 is_raised None c = false
 is_raised (Some d) c = same_counter d c
 
--- an entry is of thread t, and raises this number of its tally
+-- an entry is of thread t, and increments this counter
 abbrev pub raises : ℕ → Counter → Entry → Bool
 raises t c e = is_thread t e.actor && is_raised (counter_of e.step e.answer) c
 
--- the tally of thread t: how many of its entries raise each number
+-- the barrier counters of thread t: how many of its entries increment each of them
 unfoldable pub tally_of : ℕ → List Entry → Tally
 tally_of t es = record {
   loads = count_by (raises t counters.Loads) es;
@@ -43,6 +43,6 @@ tally_of t es = record {
   changed = count_by (raises t counters.Changed) es;
 }
 
--- the tally of each thread of a heap is what these entries make of it
+-- the barrier counters of each thread of a heap are those that these entries make
 abbrev pub TalliesAre : HeapState → List Entry → Type 0
 TalliesAre h es = (t : ℕ) (y : Tally) → tally_of_thread h t ≡ Some y → y ≡ tally_of t es

@@ -1,4 +1,4 @@
-//! A heap and its history.
+//! A recorded heap: a heap and its history.
 
 ghost use Rattle.std.specs.Prelude.{◌≡◌, IfOk};
 ghost use Rattle.cycle.specs.Books.{Acts, MakesBook, act_outcome, is_full, first_book};
@@ -18,9 +18,8 @@ use std::thread::Threads;
 
 /// A heap and the history of its accepted steps, oldest first.
 ///
-/// The heap stands for the plain heap that the history makes of an empty one, which never moves or
-/// frees an object, and each entry has the answer of the plain heap at its place: this is the
-/// invariant of the type.
+/// The heap represents the reference model that the history makes of an empty one, in which no object moves or is
+/// freed, and each entry has the reference model's answer at its place: this is the invariant of the type.
 #[derive(Drop)]
 pub struct Book {
     heap: Heap,
@@ -40,13 +39,11 @@ impl Model for Book {
 }
 
 impl Book {
-    /// What holds of every book (ours): the law of books and of its heap, that its history is within
-    /// the configuration's limit, and what it promises to threads: registers, loads and globals name
-    /// what the plain heap has in their place, what can be reached has exactly one current copy,
-    /// on a page with memory, and no register that may be used names a page without memory. Where
-    /// its last step has ended a mark (the paper's Mark phase), all that can be reached is live,
-    /// and what is live could be reached as that mark began, or is born since. It changes nothing
-    /// and never fails.
+    /// Proves the invariants of a recorded heap and of its heap, that its history is within the configuration's
+    /// limit, and its promises to threads: registers, loads and globals name what the reference model has in their
+    /// place; each reachable object has exactly one current copy, on a page with memory; and no register that may be
+    /// used names a page without memory. If its last step has ended a mark, every reachable object is live, and each
+    /// live object was reachable when that mark began, or is born since. It changes nothing and never fails.
     pub fn law(&self)
         ensures book { IsBook self.now }
         ensures promises { KeepsPromises self.now }
@@ -54,7 +51,7 @@ impl Book {
         let _ = &self.history;
     }
 
-    /// A book of the first heap of a configuration, without entries. Faults as `Heap::new` does.
+    /// Makes a recorded heap of the first heap of a configuration, without entries. Fails as `Heap::new` does.
     #[tactic(auto, unfolding(crate::specs::Books::first_book))]
     pub fn new(alloc: Global, config: Config) -> Result<Book, NewFault>
         ensures { MakesBook config result }
@@ -72,14 +69,14 @@ impl Book {
         }
     }
 
-    /// The heap as it stands.
+    /// Returns the current heap.
     pub fn heap(&self) -> &Heap
         ensures { result.now ≡ self.now.heap }
     {
         &self.heap
     }
 
-    /// The accepted steps so far, with their answers, oldest first.
+    /// Returns the accepted steps so far, with their answers, oldest first.
     pub fn history(&self) -> &History
         ensures { result.now.entries ≡ self.now.history }
     {
@@ -94,16 +91,15 @@ impl Book {
         self.history.len() as u64 >= self.heap.config().history
     }
 
-    /// One step of an actor. An accepted step enters the history with its answer.
+    /// Does one step of an actor. An accepted step enters the history with its answer.
     ///
-    /// `HistoryFull` is tested first; then room for the entry is made, and `Memory` answered
-    /// where it is refused, as it is where `Protect` is refused memory. A step that is refused for
-    /// any cause leaves heap and history as they were.
+    /// `HistoryFull` is tested first; then space for the entry is reserved. Fails with `Memory` if out of memory for
+    /// the entry, or in the step (`Take`, `Protect`). A step that is rejected for any reason leaves heap and history
+    /// as they were.
     ///
-    /// It promises what each book does (`law`). So where it has ended a mark, all that can be
-    /// reached is live, and what is live could be reached as that mark began, or is born since; and
-    /// what wasn't copied from a protected page by then can't be reached. The
-    /// phase moves as the collector's cycle has it (the paper's phases), and in no other way.
+    /// It promises what `law` does. So if it has ended a mark, every reachable object is live, and each live object
+    /// was reachable when that mark began, or is born since; and objects that weren't copied from a protected page by
+    /// then are unreachable. The phase changes as in the collector's cycle, and in no other way.
     #[inline(always)]
     pub fn act(&mut self, actor: Actor, step: Step) -> Reply
         ensures acts { Acts self.old result self.new (act_outcome self.old actor step) }
@@ -115,7 +111,7 @@ impl Book {
         reply
     }
 
-    /// What `act` does.
+    /// Does what `act` does.
     #[inline(always)]
     #[tactic(auto, unfolding(crate::specs::Books::act_outcome))]
     fn step_and_enter(&mut self, actor: Actor, step: Step) -> Reply
@@ -135,10 +131,9 @@ impl Book {
         Ok(answer)
     }
 
-    /// What `act` does of a worker's `CopyPage`, by halves on threads: the entries that go to one
-    /// target are cut in two, and so again, to a depth (above 4 counts as 4), and each piece is
-    /// copied on a thread of its own, which tells the gate before. It waits for the threads. Where
-    /// one can't be started, its piece is copied afterwards.
+    /// Does what `act` does for a worker's `CopyPage`, by halves on threads: the entries that go to one target are
+    /// cut in two, and so again, to a depth (above 4 counts as 4), and each piece is copied on a thread of its own,
+    /// which first calls the gate. It waits for the threads. If one can't be started, its piece is copied afterwards.
     pub fn copy_page_by<R: Threads + Sync, G: PieceGate + Sync>(
         &mut self,
         rt: &R,
@@ -156,7 +151,7 @@ impl Book {
         reply
     }
 
-    /// What `copy_page_by` does.
+    /// Does what `copy_page_by` does.
     #[tactic(auto, unfolding(crate::specs::Books::act_outcome))]
     fn copy_and_enter<R: Threads + Sync, G: PieceGate + Sync>(
         &mut self,

@@ -1,4 +1,4 @@
-//! The steps of threads, each a call that makes its leading tests and gives a plain value.
+//! The steps of threads, each a call that makes its leading tests and returns a plain value.
 
 ghost use Rattle.std.specs.Prelude.{◌≡◌, Some, IfOk};
 ghost use Rattle.model.specs.Buffers.{buffer_of_thread};
@@ -122,7 +122,7 @@ pub(crate) fn store(
     }
 }
 
-/// The same by all tests in their order, which tell why it is refused.
+/// The same by all tests in their order, which determine the error.
 #[cold]
 #[inline(never)]
 #[tactic(auto, unfolding(model::specs::Outcome::outcome))]
@@ -168,7 +168,7 @@ pub(crate) fn datum(heap: &Heap, thread: u32, object: u32, index: u32) -> Result
     }
 }
 
-/// The same by all tests in their order, which tell why it is refused.
+/// The same by all tests in their order, which determine the error.
 #[cold]
 #[inline(never)]
 #[tactic(auto, unfolding(model::specs::Outcome::outcome))]
@@ -195,7 +195,7 @@ pub(crate) fn set_datum(
     }
 }
 
-/// The same by all tests in their order, which tell why it is refused.
+/// The same by all tests in their order, which determine the error.
 #[cold]
 #[inline(never)]
 #[tactic(auto, unfolding(model::specs::Outcome::outcome))]

@@ -1,5 +1,4 @@
-//! Drains: the steps of a worker that scan, until nothing is left to be scanned or one is refused.
-//! What is scanned is the paper's Mark phase; that a drain is one call is ours.
+//! Mark drains: the scanning steps of a worker, until nothing is left to be scanned or a step is rejected.
 
 ghost use Rattle.std.specs.Prelude.{◌≡◌, ◌<◌, ◌^◌, position, is_some, IfOk, IfSome, OnErr, OnOk};
 ghost use Rattle.model.specs.declared.records.Global.{Global};
@@ -14,13 +13,13 @@ use marker::next_todo;
 use model::{Actor, Refusal, Reply, Step};
 use std::alloc::AllocError;
 
-/// Of a book, a drain comes to its end within as many steps as the history may have entries, and one
-/// more. It does nothing: its contract is the law.
+/// A drain of a recorded heap ends within as many steps as the history may have entries, and one more. It does
+/// nothing: its contract is the law.
 pub fn drains_end()
     ensures { DrainsEnd }
 {}
 
-/// Whether a worker has an object.
+/// Returns whether a worker has an object.
 fn has_scan(heap: &Heap, worker: u32) -> bool
     ensures { result ≡ is_some (scan_of heap.now worker) }
 {
@@ -30,7 +29,7 @@ fn has_scan(heap: &Heap, worker: u32) -> bool
     }
 }
 
-/// The number of the first global that is still to be marked.
+/// Returns the number of the first grey global, or `None`.
 fn next_global(heap: &Heap) -> Option<usize>
     ensures place { result ≡ position (λ (g : Global). g.todo) heap.now.globals }
     ensures range { IfSome result (λ i. i < 2 ^ 32) }
@@ -39,9 +38,9 @@ fn next_global(heap: &Heap) -> Option<usize>
     heap.first_todo_global()
 }
 
-/// What a worker does next that drains the mark (the paper's Mark phase; the order is ours): it scans
-/// the object that it has; else it marks the first global that is still to be marked; else it picks
-/// the first object that no worker has. `None` where nothing of this is there. Workers count from 0.
+/// Returns the next step by which a worker drains the mark: it scans the object that it has; else it marks the first
+/// grey global; else it picks the first object that no worker has. `None` if there is nothing of these. Workers count
+/// from 0.
 #[tactic(auto, unfolding(model::specs::Scans::next_drain))]
 pub fn next_drain(heap: &Heap, worker: u32) -> Option<Step>
     ensures { result ≡ next_drain heap.now worker }
@@ -59,7 +58,7 @@ pub fn next_drain(heap: &Heap, worker: u32) -> Option<Step>
     })
 }
 
-/// What replies come to: the first refusal, where one was refused.
+/// Returns the first error among replies, if there is one.
 pub fn verdict(replies: &[Reply]) -> Result<(), Refusal>
     ensures { result ≡ verdict replies.now }
 {
@@ -72,7 +71,7 @@ pub fn verdict(replies: &[Reply]) -> Result<(), Refusal>
 }
 
 impl Book {
-    /// At most so many steps of a drain. The error is want of memory: a beginning of them is done then.
+    /// Does at most `most` steps of a drain. Returns `AllocError` if out of memory: a beginning of them is done then.
     fn drain_within(
         &mut self,
         most: u64,
@@ -98,15 +97,13 @@ impl Book {
         Ok(Ok(()))
     }
 
-    /// A whole drain, as one call: the worker scans the object that it has to its end, marks the
-    /// globals that are still to be marked, from the first on, and then picks and scans objects, the
-    /// one with the least address first, until none is left that no worker has. `Ok` where it came
-    /// to that end; else the first refusal, and `Memory` for want of memory. What the steps said is
-    /// put behind other replies: all of them are accepted, or all but the last.
+    /// Does a complete drain, as one call: the worker scans the object that it has to its end, marks the grey
+    /// globals, from the first on, and then picks and scans objects, the one with the least address first, until none
+    /// is left that no worker has. Returns `Ok` if it came to that end; else the first error, and `Memory` if out of
+    /// memory. The steps' replies are appended to `replies`: all of them are accepted, or all but the last.
     ///
-    /// After `Memory` a beginning of these steps is done, each of them accepted, and what was put
-    /// behind others is what they said; the call may be made again. What is scanned is the paper's
-    /// Mark phase; the order is ours.
+    /// After `Memory` a beginning of these steps is done, each of them accepted, and their replies are appended; the
+    /// call may be made again.
     pub fn drain(&mut self, worker: u32, replies: &mut Vec<Reply>) -> Result<(), Refusal>
         ensures { DrainsWhole result self.old replies.old.items self.new replies.new.items (drain self.old worker) }
     {

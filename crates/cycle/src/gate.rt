@@ -1,4 +1,4 @@
-//! The tests that come before those of a step's own row.
+//! The tests that come before those of a single step.
 
 ghost use Rattle.std.specs.Prelude.{◌≡◌, ◌||◌, length, nat_le, slice_get};
 ghost use Rattle.model.specs.Outcome.{no_register, no_global, has_bad_index, is_for_workers, is_for_parked};
@@ -9,8 +9,8 @@ use crate::pages::{are_bad_pages, no_page};
 use heap::Heap;
 use model::{Refusal, Step};
 
-/// Whether there is no such register. It is asked of the list of the thread that does the step, if the thread is there,
-/// so that the step's row needn't test it again.
+/// Returns whether there is no such register. It is looked up in the thread that does the step, if the thread exists,
+/// so that the step needn't test it again.
 #[inline(always)]
 #[tactic(auto, unfolding(model::specs::Outcome::no_register))]
 fn no_register(heap: &Heap, thread: u32, register: u32) -> bool
@@ -45,8 +45,8 @@ fn no_thread(heap: &Heap, thread: u32) -> bool
     thread as usize >= heap.threads().len()
 }
 
-/// Whether a number in a step names nothing. The step is a thread's or a worker's, by a number from 0; for a worker's
-/// that doesn't matter.
+/// Returns whether a number in a step names nothing. The step is a thread's or a worker's, by a number from 0; for a
+/// worker's that doesn't matter.
 #[inline(always)]
 fn has_bad_index(heap: &Heap, thread: u32, step: &Step) -> bool
     ensures { result ≡ has_bad_index heap.now step.now }
@@ -88,7 +88,7 @@ fn has_bad_index(heap: &Heap, thread: u32, step: &Step) -> bool
     }
 }
 
-/// Whether a worker does such a step; threads do all others.
+/// Returns whether such a step is a worker's; threads do all others.
 #[inline(always)]
 fn is_for_workers(step: &Step) -> bool
     ensures { result ≡ is_for_workers step.now }
@@ -108,7 +108,7 @@ fn is_for_workers(step: &Step) -> bool
     )
 }
 
-/// Whether a parked thread may do such a step.
+/// Returns whether a parked thread may do such a step.
 #[inline(always)]
 fn is_for_parked(step: &Step) -> bool
     ensures { result ≡ is_for_parked step.now }
@@ -116,7 +116,7 @@ fn is_for_parked(step: &Step) -> bool
     matches!(step, Step::Unpark)
 }
 
-/// Whether a thread with an open barrier may do such a step.
+/// Returns whether a thread with an open barrier may do such a step.
 #[inline(always)]
 fn is_for_loading(step: &Step) -> bool
     ensures { result ≡ is_for_loading step.now }
@@ -131,7 +131,7 @@ fn is_loading(heap: &Heap, thread: u32) -> bool
     heap.barrier(thread).is_some()
 }
 
-/// Whether a thread is parked or has an open barrier; false where there is no such thread.
+/// Returns whether a thread is parked or has an open barrier; false if there is no such thread.
 #[inline(always)]
 fn is_held(heap: &Heap, thread: u32) -> bool
     ensures { result ≡ (is_parked_in (slice_get heap.now.threads thread)
@@ -143,9 +143,9 @@ fn is_held(heap: &Heap, thread: u32) -> bool
     }
 }
 
-/// The tests of every step of a thread, in their order: no such thread, or no step of a thread;
-/// a number that names nothing; a parked thread, unless it is to run again; an open barrier, unless
-/// the step is one of its own. Its Ok is what a call asks that does the step's row.
+/// Makes the tests of every step of a thread, in their order: no such thread, or no step of a thread; a number that
+/// names nothing; a parked thread, unless it is to run again; an open barrier, unless the step is one of its own. Its
+/// Ok is the precondition of the call that does the step.
 #[inline(always)]
 #[tactic(auto, unfolding(model::specs::Outcome::thread_gate))]
 pub fn thread_gate(heap: &Heap, thread: u32, step: &Step) -> Result<(), Refusal>
@@ -169,8 +169,8 @@ pub fn thread_gate(heap: &Heap, thread: u32, step: &Step) -> Result<(), Refusal>
     Ok(())
 }
 
-/// The tests of every step of a worker, in their order: no such worker, or no step of a worker; a
-/// number that names nothing. Its Ok is what a call asks that does the step's row.
+/// Makes the tests of every step of a worker, in their order: no such worker, or no step of a worker; a number that
+/// names nothing. Its Ok is the precondition of the call that does the step.
 #[tactic(auto, unfolding(model::specs::Outcome::worker_gate))]
 pub fn worker_gate(heap: &Heap, worker: u32, step: &Step) -> Result<(), Refusal>
     ensures { result ≡ worker_gate heap.now worker step.now }

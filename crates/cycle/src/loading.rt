@@ -1,5 +1,4 @@
-//! Whole loads: the steps of one load through the read barrier, up to its end or its first refusal.
-//! The barrier is the paper's (its section on the read barrier); that a load is one call is ours.
+//! Complete loads: the steps of one load through the read barrier, up to its end or its first error.
 
 ghost use Rattle.std.specs.Prelude.{◌≡◌, ◌++◌, ◌∷◌, [], false, IfOk, OnErr, OnOk};
 ghost use Rattle.model.specs.declared.steps.Actor.TheVariants.{Thread};
@@ -16,23 +15,23 @@ use heap::Heap;
 use model::{Actor, Answer, Barrier, Refusal, Reply, Step};
 use std::alloc::AllocError;
 
-/// The most traps of one load (ours). Behind one that forwards and one that marks none is due any
-/// more, so the third is clear.
+/// The most traps of one load. After one that forwards and one that marks none is due any more, so the third is
+/// clear.
 pub const MOST_TRAPS: u32 = 3;
 
-/// Of a book, no more than three traps are ever asked for. It does nothing: its contract is the law.
+/// No load of a recorded heap needs more than three traps. It does nothing: its contract is the law.
 pub fn three_traps()
     ensures { ThreeTrapsServe }
 {}
 
-/// Whether an answer to a trap says that none was due.
+/// Returns whether an answer to a trap is that none was due.
 pub fn is_clear(answer: Answer) -> bool
     ensures { result ≡ is_clear answer }
 {
     matches!(answer, Answer::Clear)
 }
 
-/// Whether the word of an open load was corrected, and its place isn't healed yet.
+/// Returns whether the word of an open load was corrected, and its place isn't healed yet.
 fn waits_for_heal(barrier: Option<Barrier>) -> bool
     ensures { result ≡ waits_for_heal barrier }
 {
@@ -42,15 +41,15 @@ fn waits_for_heal(barrier: Option<Barrier>) -> bool
     }
 }
 
-/// Whether a thread's load is behind a trap that was due, and before its heal. Threads count from 0;
-/// of one that isn't there it is false.
+/// Returns whether a thread's load is after a trap that was due, and before its heal. Threads count from 0; false if
+/// there is no such thread.
 pub fn heal_is_due(heap: &Heap, thread: u32) -> bool
     ensures { result ≡ heal_is_due heap.now (Thread thread) }
 {
     waits_for_heal(heap.barrier(thread))
 }
 
-/// Whether an actor's load is behind a trap that was due, and before its heal.
+/// Returns whether an actor's load is after a trap that was due, and before its heal.
 fn is_due_for(heap: &Heap, actor: Actor) -> bool
     ensures { result ≡ heal_is_due heap.now actor }
 {
@@ -61,9 +60,8 @@ fn is_due_for(heap: &Heap, actor: Actor) -> bool
 }
 
 impl Book {
-    /// One step, as `act` does it, whose reply is put behind others. The error is want of memory,
-    /// for the reply or in the step; then book and replies are as they were. So the reply is never
-    /// `Memory`.
+    /// Does one step, as `act` does, and appends its reply. Returns `AllocError` if out of memory, for the reply or
+    /// in the step; then recorded heap and replies are as they were. So the reply is never `Memory`.
     pub fn act_into(
         &mut self,
         actor: Actor,
@@ -85,7 +83,7 @@ impl Book {
         Ok(reply)
     }
 
-    /// The load ends.
+    /// Ends the load.
     fn finish_load(&mut self, actor: Actor, replies: &mut Vec<Reply>) -> Result<Reply, AllocError>
         ensures steps { OnOk result (Leaves (finish_load self.old actor) replies.old.items self.new replies.new.items) }
         ensures last { IfOk result (EndsIn replies.new.items) }
@@ -96,7 +94,7 @@ impl Book {
         self.act_into(actor, Step::Finish, replies)
     }
 
-    /// The place of the load is healed, where a trap was due, and the load ends.
+    /// Heals the place of the load, if a trap was due, and ends the load.
     fn heal_load(
         &mut self,
         actor: Actor,
@@ -120,7 +118,7 @@ impl Book {
         }
     }
 
-    /// Traps until one is clear, heals the place where a trap was due, and finishes.
+    /// Traps until one is clear, heals the place if a trap was due, and finishes.
     fn trap_load(
         &mut self,
         actor: Actor,
@@ -148,13 +146,12 @@ impl Book {
         self.heal_load(actor, due, replies)
     }
 
-    /// Goes on with a load that has begun, to its end: traps until one is clear, heals the place
-    /// where a trap was due, and finishes. A refusal is the end. Gives the reply of its last step,
-    /// and puts all behind others.
+    /// Continues a load that has begun, to its end: traps until one is clear, heals the place if a trap was due, and
+    /// finishes. An error is the end. Returns the reply of its last step, and appends all.
     ///
-    /// The error is want of memory. What is done then is a beginning of these steps, each of them
-    /// accepted, and what was put behind others is what they said. This call may be asked again, and
-    /// goes on from there: a trap that was due before has its place healed.
+    /// Returns `AllocError` if out of memory. What is done then is a beginning of these steps, each of them accepted,
+    /// and their replies are appended. This call may be made again, and continues from there: a trap that was due
+    /// before has its place healed.
     pub fn end_load(&mut self, actor: Actor, replies: &mut Vec<Reply>) -> Result<Reply, AllocError>
         ensures steps { OnOk result (Leaves (end_load self.old actor) replies.old.items self.new replies.new.items) }
         ensures last { IfOk result (EndsIn replies.new.items) }
@@ -185,12 +182,12 @@ impl Book {
         }
     }
 
-    /// A whole load, as one call: the step that begins it, which is `Load` or `LoadGlobal`, then
-    /// all that `end_load` does. `Ok` where the register has the reference; else the first refusal,
-    /// and `Memory` for want of memory. What the steps said is put behind other replies.
+    /// Does a complete load, as one call: the step that begins it, which is `Load` or `LoadGlobal`, then all that
+    /// `end_load` does. Returns `Ok` if the register has the reference; else the first error, and `Memory` if out of
+    /// memory. The steps' replies are appended to `replies`.
     ///
-    /// After `Memory` a beginning of these steps is done, each of them accepted, and what was put
-    /// behind others is what they said. Where the load had begun, `end_load` goes on with it.
+    /// After `Memory` a beginning of these steps is done, each of them accepted, and their replies are appended. If
+    /// the load had begun, `end_load` continues it.
     pub fn whole_load(
         &mut self,
         actor: Actor,

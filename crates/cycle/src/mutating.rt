@@ -1,4 +1,4 @@
-//! Steps of threads by calls that give plain values.
+//! Steps of threads by calls that return plain values.
 
 ghost use Rattle.std.specs.Prelude.{◌≡◌, Some, IfOk};
 ghost use Rattle.model.specs.Buffers.{buffer_of_thread};
@@ -11,86 +11,83 @@ use crate::calls;
 use heap::Heap;
 use model::{Buffer, Refusal, Trap};
 
-/// What mutator threads do to a heap: each step of a thread as a call of its own, with plain values
-/// in and out. It is what a program asks that holds a heap.
+/// The steps of mutator threads on a heap, each as a call of its own, with plain values in and out. It is for
+/// programs that hold a heap.
 ///
 /// `thread`, registers (`target`, `object`, `source`, `left`, `right`, `register`), `layout`,
 /// `field`, `index` and `global` are numbers from 0; `field` and `index` count within an object,
 /// references and data each. `words` counts words.
 ///
-/// Each call tests first, in this order: `NoActor` where there is no such thread, `BadIndex` where a
-/// number names nothing, `Parked` where the thread is parked (but for `unpark`), and `Busy` where its
-/// barrier is open (but for `trap`, `heal` and `finish`). What more it refuses stands at each. A
-/// refused call changes nothing.
+/// Each call tests first, in this order, and fails with `NoActor` if there is no such thread, `BadIndex` if a number
+/// names nothing, `Parked` if the thread is parked (except `unpark`), and `Busy` if its barrier is open (except
+/// `trap`, `heal` and `finish`). Each call lists its further errors. A call that fails changes nothing.
 ///
-/// Each is `Stepping::step` of its step: it has the step's outcome, of which it gives the answer as
-/// a plain value; and where the heap stands for a plain heap, which never moves or frees an object,
-/// it does so after the call, whose value is the plain heap's.
+/// Each is `Stepping::step` of its step: it has the step's outcome, and returns the answer as a plain value. If the
+/// heap represents a reference model, in which no object moves or is freed, it also does after the call, whose value
+/// is the reference model's.
 pub trait Mutating {
-    /// Takes a buffer of 1 to the words of a page, in the lowest open page with room, else in a fresh
-    /// page, and gives it: it is the thread's then.
+    /// Takes a buffer of 1 to the words of a page, in the lowest open page with space, else in a fresh page, and
+    /// returns it: it is then the thread's.
     ///
-    /// Refused as `BadIndex` for a number of words that no page has; `HasBuffer` where there is one;
-    /// `NoFrames` and `NoPages` where neither a page nor a frame has room; `Memory` where memory for
-    /// a fresh page was refused. No other call here answers `Memory`.
+    /// Fails with `BadIndex` for a number of words that no page has; `HasBuffer` if there is one; `NoFrames` or
+    /// `NoPages` if no page has space, and no frame is free or no page number unused; `Memory` if out of memory for a
+    /// fresh page. No other call here fails with `Memory`.
     fn take(&mut self, thread: u32, words: u32) -> Result<Buffer, Refusal>;
 
-    /// Gives the buffer back, whose rest is lost. Refused as `NoRoom` where there is none.
+    /// Gives the buffer back; the rest of it is lost. Fails with `NoRoom` if there is none.
     fn give_back(&mut self, thread: u32) -> Result<(), Refusal>;
 
-    /// Makes an object in the buffer, with null references and data of 0, whose word a register gets;
-    /// gives its birth number: how many were born before it.
+    /// Makes an object in the buffer, with null references and data of 0, and writes its word to a register. Returns
+    /// its birth number: how many were born before it.
     ///
-    /// Refused as `BadIndex` for a register or a layout that isn't there; `NoRoom` where there is no
-    /// buffer, or one with fewer words; `Births` where no more may be born.
+    /// Fails with `BadIndex` for a register or a layout that doesn't exist; `NoRoom` if there is no buffer, or one
+    /// with fewer words; `Births` if no more objects may be born.
     fn new_object(&mut self, thread: u32, target: u32, layout: u32) -> Result<u64, Refusal>;
 
-    /// Begins to load a reference field of an object for a register: a barrier opens (the paper's read
-    /// barrier).
+    /// Begins to load a reference field of an object into a register: opens a read barrier.
     ///
-    /// Refused as `BadIndex` for a register or a field that isn't there; `Null`, `Stall` or `Stale` where
-    /// the object's register may not be used.
+    /// Fails with `BadIndex` for a register or a field that doesn't exist; `Null`, `Stall` or `Stale` if the object's
+    /// register may not be used.
     fn load(&mut self, thread: u32, target: u32, object: u32, field: u32) -> Result<(), Refusal>;
 
-    /// Begins to load a global for a register: a barrier opens (the paper's read barrier). Refused as
-    /// `BadIndex` for a register or a global that isn't there.
+    /// Begins to load a global into a register: opens a read barrier. Fails with `BadIndex` for a register or a
+    /// global that doesn't exist.
     fn load_global(&mut self, thread: u32, target: u32, global: u32) -> Result<(), Refusal>;
 
-    /// Corrects or marks the word in the barrier, and gives which trap was due (the paper's read
-    /// barrier; that the thread copies an object that isn't copied yet is ours).
+    /// Corrects or marks the word in the barrier, and returns which trap was due. To correct it, the thread first
+    /// copies the object if it isn't copied yet.
     ///
-    /// Refused as `NotBusy` where no barrier is open, and as `Stall` where the word names a protected
-    /// page while a thread has still to cross.
+    /// Fails with `NotBusy` if no barrier is open, and with `Stall` if the word names a protected page while a thread
+    /// has still to cross.
     fn trap(&mut self, thread: u32) -> Result<Trap, Refusal>;
 
-    /// Writes the word in the barrier back to the place of the load (the paper's read barrier), if that
-    /// hasn't changed (ours); gives whether it was written.
+    /// Writes the word in the barrier back to the place of the load, if that hasn't changed. Returns whether it was
+    /// written.
     ///
-    /// Refused as `NotBusy` where no barrier is open, and as `Busy` where a trap is due.
+    /// Fails with `NotBusy` if no barrier is open, and with `Busy` if a trap is due.
     fn heal(&mut self, thread: u32) -> Result<bool, Refusal>;
 
-    /// Ends the load: its register gets the word in the barrier, which closes (the paper's read
-    /// barrier).
+    /// Ends the load: its register gets the word in the barrier, which closes.
     ///
-    /// Refused as `NotBusy` where no barrier is open, and as `Busy` where a trap is due, or the word was
-    /// corrected and its place isn't healed.
+    /// Fails with `NotBusy` if no barrier is open, and with `Busy` if a trap is due, or the word was corrected and
+    /// its place isn't healed.
     fn finish(&mut self, thread: u32) -> Result<(), Refusal>;
 
     /// Writes a register's word to a reference field of an object.
     ///
-    /// Refused as `BadIndex` for a register or a field that isn't there; `Null`, `Stall` or `Stale` where
-    /// the object's register may not be used, and the last two for the source's.
+    /// Fails with `BadIndex` for a register or a field that doesn't exist; `Null`, `Stall` or `Stale` if the object's
+    /// register may not be used; `Stall` or `Stale` if the source's may not.
     fn store(&mut self, thread: u32, object: u32, field: u32, source: u32) -> Result<(), Refusal>;
 
-    /// Writes a register's word to a global. Refused as `BadIndex` for a register or a global that isn't
-    /// there; `Stall` or `Stale` where the register may not be used.
+    /// Writes a register's word to a global. Fails with `BadIndex` for a register or a global that doesn't exist;
+    /// `Stall` or `Stale` if the register may not be used.
     fn store_global(&mut self, thread: u32, global: u32, source: u32) -> Result<(), Refusal>;
 
-    /// Reads a data word of an object. Refused as `BadIndex` for a register or a word that isn't there;
-    /// `Null`, `Stall` or `Stale` where the object's register may not be used.
+    /// Reads a data word of an object. Fails with `BadIndex` for a register or a word that doesn't exist; `Null`,
+    /// `Stall` or `Stale` if the object's register may not be used.
     fn datum(&self, thread: u32, object: u32, index: u32) -> Result<u64, Refusal>;
 
-    /// Writes a data word of an object. Refused as `datum` is.
+    /// Writes a data word of an object. Fails as `datum` does.
     fn set_datum(
         &mut self,
         thread: u32,
@@ -99,34 +96,33 @@ pub trait Mutating {
         value: u64,
     ) -> Result<(), Refusal>;
 
-    /// Whether two registers name the same object, or both none. Refused as `BadIndex` for a register
-    /// that isn't there; `Stall` or `Stale` where one may not be used.
+    /// Returns whether two registers name the same object, or are both null. Fails with `BadIndex` for a register
+    /// that doesn't exist; `Stall` or `Stale` if one may not be used.
     fn same(&self, thread: u32, left: u32, right: u32) -> Result<bool, Refusal>;
 
-    /// Whether a register is null. Refused as `BadIndex` for a register that isn't there.
+    /// Returns whether a register is null. Fails with `BadIndex` for a register that doesn't exist.
     fn is_null(&self, thread: u32, register: u32) -> Result<bool, Refusal>;
 
-    /// Writes a register's word to another one. Refused as `BadIndex` for a register that isn't there.
+    /// Copies a register's word to another register. Fails with `BadIndex` for a register that doesn't exist.
     fn copy_register(&mut self, thread: u32, target: u32, source: u32) -> Result<(), Refusal>;
 
-    /// Makes a register null. Refused as `BadIndex` for a register that isn't there.
+    /// Makes a register null. Fails with `BadIndex` for a register that doesn't exist.
     fn clear_register(&mut self, thread: u32, target: u32) -> Result<(), Refusal>;
 
-    /// Crosses the open checkpoint (the paper's checkpoints). Refused as `Phase` where none is open, and
-    /// as `AlreadyCrossed` where the thread has crossed.
+    /// Crosses the open checkpoint. Fails with `Phase` if none is open, and with `AlreadyCrossed` if the thread has
+    /// crossed.
     fn cross(&mut self, thread: u32) -> Result<(), Refusal>;
 
-    /// Corrects a register that names a protected page, and gives whether it did (ours).
+    /// Corrects a register that names a protected page. Returns whether it did.
     ///
-    /// Refused as `BadIndex` for a register that isn't there; `Null` where it is null; `Stall` where it
-    /// names a protected page that the thread may not use, while another has still to cross.
+    /// Fails with `BadIndex` for a register that doesn't exist; `Null` if it is null; `Stall` if it names a protected
+    /// page that the thread may not use, while another has still to cross.
     fn scrub(&mut self, thread: u32, register: u32) -> Result<bool, Refusal>;
 
-    /// Parks the thread: it may do nothing but `unpark` (ours; the paper's checkpoints speak of blocked
-    /// threads).
+    /// Parks the thread: it may do nothing but `unpark`.
     fn park(&mut self, thread: u32) -> Result<(), Refusal>;
 
-    /// Lets the thread run again (ours). Refused as `NotParked` where it isn't parked.
+    /// Lets the thread run again. Fails with `NotParked` if it isn't parked.
     fn unpark(&mut self, thread: u32) -> Result<(), Refusal>;
 }
 

@@ -1,4 +1,4 @@
-//! Which pages can be named together.
+//! Which pages a step can name together.
 
 ghost use Rattle.std.specs.Prelude.{◌≡◌, ◌==◌};
 ghost use Rattle.std.specs.List.{list_any};
@@ -8,7 +8,7 @@ ghost use Rattle.cycle.specs.Rising.{rises_above};
 
 use heap::Heap;
 
-/// Whether there is no page of a number. Pages count from 1.
+/// Returns whether there is no page of a number. Pages count from 1.
 #[tactic(auto, unfolding(model::specs::Outcome::no_page))]
 pub(crate) fn no_page(heap: &Heap, page: u32) -> bool
     ensures { result ≡ no_page heap.now page }
@@ -16,7 +16,7 @@ pub(crate) fn no_page(heap: &Heap, page: u32) -> bool
     page == 0 || page > heap.memory().page_count()
 }
 
-/// Whether a list names a page that isn't there.
+/// Returns whether a list names a page that doesn't exist.
 #[tactic(auto, unfolding(model::specs::Outcome::no_page))]
 fn names_no_page(heap: &Heap, pages: &[u32]) -> bool
     ensures { result ≡ list_any (no_page_in heap.now.store) pages.now }
@@ -24,7 +24,7 @@ fn names_no_page(heap: &Heap, pages: &[u32]) -> bool
     pages.iter().any(|page| no_page(heap, *page))
 }
 
-/// Whether the numbers rise strictly, and the first is 1 or above.
+/// Returns whether the numbers rise strictly, and the first is 1 or above.
 fn rises(pages: &[u32]) -> bool
     ensures { result ≡ rises_above 0 pages.now }
 {
@@ -38,15 +38,15 @@ fn rises(pages: &[u32]) -> bool
     true
 }
 
-/// Whether a page stands in a list.
+/// Returns whether a page is in a list.
 fn stands_in(page: u32, pages: &[u32]) -> bool
     ensures { result ≡ list_any (λ m. m == page) pages.now }
 {
     pages.iter().any(|other| *other == page)
 }
 
-/// Whether a page stands in a list twice. It compares each with all behind it, so its time grows
-/// with the square of the list's length.
+/// Returns whether a page is in a list twice. It compares each with all after it, so its time grows with the square
+/// of the list's length.
 fn has_pair(pages: &[u32]) -> bool
     ensures { result ≡ has_twice pages.now }
 {
@@ -58,8 +58,8 @@ fn has_pair(pages: &[u32]) -> bool
     false
 }
 
-/// Whether a page stands in a list twice. A list that rises names none twice, which one pass tells;
-/// of all others each two are compared.
+/// Returns whether a page is in a list twice. A list that rises names none twice, which one pass finds; in all
+/// others, each two pages are compared.
 #[tactic(auto, using(crate::proofs::NamedOnce::rising_once))]
 pub fn has_twice(pages: &[u32]) -> bool
     ensures { result ≡ has_twice pages.now }
@@ -67,9 +67,8 @@ pub fn has_twice(pages: &[u32]) -> bool
     !rises(pages) && has_pair(pages)
 }
 
-/// Whether pages can't be named together: none is named, or one that isn't there, or one twice. It
-/// takes no memory. Where the numbers don't rise strictly, its time grows with the square of how
-/// many there are.
+/// Returns whether pages can't be named together: none is named, or one that doesn't exist, or one twice. It takes no
+/// memory. If the numbers don't rise strictly, its time grows with the square of how many there are.
 #[tactic(auto, using(crate::proofs::NamedOnce::bad_by_parts))]
 pub(crate) fn are_bad_pages(heap: &Heap, pages: &[u32]) -> bool
     ensures { result ≡ are_bad_pages heap.now pages.now }

@@ -7,10 +7,10 @@ use crate::book::Book;
 use model::{Actor, Reply, Step};
 use std::alloc::{AllocError, Global};
 
-/// Does each step in turn, and gives the reply to each, in order.
+/// Does each step in turn, and returns the reply to each, in order.
 ///
-/// Makes the list of the replies first: an `Err` leaves the book as it was. A step for which
-/// memory is refused has `Memory` as its reply, and the others go on.
+/// Makes the list of the replies first: an `Err` leaves the recorded heap as it was. A step that runs out of memory
+/// has `Memory` as its reply, and the others go on.
 pub fn run(
     alloc: Global,
     book: &mut Book,
@@ -26,7 +26,7 @@ pub fn run(
     replies
 }
 
-/// What `run` does.
+/// Does what `run` does.
 fn act_each(
     alloc: Global,
     book: &mut Book,
@@ -43,7 +43,7 @@ fn act_each(
     Ok(replies)
 }
 
-/// Adds a reply for which there is room.
+/// Adds a reply for which there is space.
 pub(crate) fn add(replies: &mut Vec<Reply>, reply: Reply)
     requires { vec_len replies.old < vec_capacity replies.old }
     ensures added { replies.new.items ≡ replies.old.items ++ reply ∷ [] }

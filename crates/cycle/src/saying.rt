@@ -1,4 +1,4 @@
-//! The answers that plain values stand for.
+//! The answers that plain values represent.
 
 ghost use Rattle.std.specs.Prelude.{◌≡◌};
 ghost use Rattle.model.specs.declared.steps.Answer.TheVariants as answers;
@@ -6,7 +6,7 @@ ghost use Rattle.model.specs.Saying.{said, done, loaded, lent, trapped, healed, 
 
 use model::{Answer, Buffer, Refusal, Reply, Trap};
 
-/// The reply to a step that has nothing to tell but that it is done.
+/// Returns the reply to a step whose answer is only that it is done.
 #[inline(always)]
 pub fn done(told: Result<(), Refusal>) -> Reply
     ensures { result ≡ said done told }
@@ -15,7 +15,7 @@ pub fn done(told: Result<(), Refusal>) -> Reply
     Ok(Answer::Done)
 }
 
-/// The reply to a step that begins a load.
+/// Returns the reply to a step that begins a load.
 #[inline(always)]
 pub fn loaded(told: Result<(), Refusal>) -> Reply
     ensures { result ≡ said loaded told }
@@ -24,7 +24,7 @@ pub fn loaded(told: Result<(), Refusal>) -> Reply
     Ok(Answer::Loaded)
 }
 
-/// The answer that a buffer is.
+/// Returns the answer for a buffer.
 #[inline(always)]
 pub fn lent(buffer: Buffer) -> Answer
     ensures { result ≡ lent buffer }
@@ -35,7 +35,7 @@ pub fn lent(buffer: Buffer) -> Answer
     }
 }
 
-/// The answer that a trap is.
+/// Returns the answer for a trap.
 #[inline(always)]
 pub fn trapped(trap: Trap) -> Answer
     ensures { result ≡ trapped trap }
@@ -47,7 +47,7 @@ pub fn trapped(trap: Trap) -> Answer
     }
 }
 
-/// The answer to `Heal`.
+/// Returns the answer to `Heal`.
 #[inline(always)]
 pub fn healed(written: bool) -> Answer
     ensures { result ≡ healed written }
@@ -59,7 +59,7 @@ pub fn healed(written: bool) -> Answer
     }
 }
 
-/// The answer to `Scrub`.
+/// Returns the answer to `Scrub`.
 #[inline(always)]
 pub fn scrubbed(corrected: bool) -> Answer
     ensures { result ≡ scrubbed corrected }
@@ -71,7 +71,7 @@ pub fn scrubbed(corrected: bool) -> Answer
     }
 }
 
-/// The reply to a step that copies the objects of a page.
+/// Returns the reply to a step that copies the objects of a page.
 pub fn copied_page(told: Result<u32, Refusal>) -> Reply
     ensures { result ≡ said answers.CopiedPage told }
 {

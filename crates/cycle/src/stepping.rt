@@ -15,19 +15,19 @@ use model::{Actor, Refusal, Reply, Step};
 use relocate::PieceGate;
 use std::thread::Threads;
 
-/// What actors do to a heap, one step at a time.
+/// The steps of actors on a heap, one at a time.
 pub trait Stepping {
-    /// One step of an actor, which is accepted or refused. A refused step changes nothing.
+    /// Does one step of an actor, which is accepted or rejected. A rejected step changes nothing.
     fn step(&mut self, actor: Actor, step: &Step) -> Reply;
 }
 
 impl Stepping for Heap {
-    /// Does exactly what the step's row says: refuses it by the first test that holds, and else
-    /// gives its answer and has its effect. It answers `Memory` for `Take` and `Protect` alone, where
-    /// memory for a fresh page or for a growth was refused, and changes nothing then.
+    /// Has exactly the step's outcome: the first test that applies rejects it; else it returns its answer and has its
+    /// effect. It fails with `Memory` for `Take` and `Protect` alone, if out of memory for a fresh page or for a
+    /// growth, and then changes nothing.
     ///
-    /// Where the heap stands for a plain heap, which never moves or frees an object, it does so
-    /// after an accepted step, and the answer is the plain heap's.
+    /// If the heap represents a reference model, in which no object moves or is freed, it also does after an accepted
+    /// step, and the answer is the reference model's.
     #[inline(always)]
     fn step(&mut self, actor: Actor, step: &Step) -> Reply
         ensures does { DoesStep self.old step.now result self.new (outcome self.old actor step.now) }
@@ -39,7 +39,7 @@ impl Stepping for Heap {
     }
 }
 
-/// The step of an actor.
+/// Does the step of an actor.
 #[inline(always)]
 #[tactic(auto, unfolding(model::specs::Outcome::outcome, model::specs::Outcome::worker_gate))]
 fn actor_row(heap: &mut Heap, actor: Actor, step: &Step) -> Reply
@@ -54,7 +54,7 @@ fn actor_row(heap: &mut Heap, actor: Actor, step: &Step) -> Reply
     }
 }
 
-/// The step of a thread: its call, and the answer that the value stands for.
+/// Does the step of a thread: its call, and the answer that the value represents.
 #[inline(always)]
 #[tactic(auto, unfolding(model::specs::Outcome::outcome, model::specs::Outcome::thread_gate))]
 fn thread_step(heap: &mut Heap, thread: u32, step: &Step) -> Reply
@@ -100,7 +100,7 @@ fn thread_step(heap: &mut Heap, thread: u32, step: &Step) -> Reply
     }
 }
 
-/// The step of a worker whose leading tests were passed.
+/// Does the step of a worker, whose leading tests have passed.
 fn worker_row(heap: &mut Heap, worker: u32, step: &Step) -> Reply
     requires { WorkerPasses heap.old worker step.now }
     ensures { DoesStep heap.old step.now result heap.new (worker_row heap.old worker step.now) }
@@ -120,8 +120,7 @@ fn worker_row(heap: &mut Heap, worker: u32, step: &Step) -> Reply
     }
 }
 
-/// The step of a worker that copies the objects of a page, by halves on threads. It does what `step`
-/// does of it.
+/// Does a worker's step that copies the objects of a page, by halves on threads. It does what `step` does for it.
 pub(crate) fn copy_page_by<R: Threads + Sync, G: PieceGate + Sync>(
     rt: &R,
     heap: &mut Heap,
@@ -138,7 +137,7 @@ pub(crate) fn copy_page_by<R: Threads + Sync, G: PieceGate + Sync>(
     copy_row_by(rt, heap, worker, page, depth, gate)
 }
 
-/// The tests of the step, and its row.
+/// Tests the step and does it.
 #[tactic(auto, unfolding(model::specs::Outcome::outcome, model::specs::Outcome::worker_gate))]
 fn copy_row_by<R: Threads + Sync, G: PieceGate + Sync>(
     rt: &R,

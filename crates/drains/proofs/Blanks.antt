@@ -1,4 +1,4 @@
--- A reference that is null, and written so, is as its mark leaves it.
+-- A reference whose bits are 0 is as its mark leaves it.
 use Rattle.std.proofs.Common.{◌≡◌, ℕ, zero, suc, ◌+◌, ◌/◌, ◌%◌, List, [], ◌∷◌, Option, Some, None, refl, sym, ◌∙◌, ap}
 use Rattle.std.proofs.Common.{set}
 use Rattle.std.specs.List.{slice_get}

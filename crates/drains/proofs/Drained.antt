@@ -1,4 +1,4 @@
--- What is scanned whole is what steps of a drain do.
+-- A complete scan does what steps of a drain do.
 use Rattle.std.proofs.Common.{◌≡◌, ◌≢◌, ◌⊎◌, inl, inr, ℕ, zero, suc, ◌+◌, ◌*◌, ◌/◌, ◌%◌, ◌<◌, ◌≤◌, ◌&&◌, ◌||◌, not}
 use Rattle.std.proofs.Common.{Bool, true, false}
 use Rattle.std.proofs.Common.{cond, nat_lt, nat_le, nat_eq, is_some, List, [], ◌∷◌, ◌++◌, get_or, length, Option, Some}

@@ -4,3 +4,4 @@ pub mod Ended
 pub mod Bits
 pub mod Waiting
 pub mod Blanks
+pub mod Written

@@ -1,13 +1,10 @@
--- An object that is picked and scanned field by field is scanned whole.
-use Rattle.std.proofs.Common.{◌≡◌, ◌≢◌, ◌⊎◌, inl, inr, ℕ, zero, suc, ◌+◌, ◌*◌, ◌/◌, ◌%◌, true, false}
+-- An object that is picked and scanned field by field is scanned completely.
+use Rattle.std.proofs.Common.{◌≡◌, ◌≢◌, ℕ, zero, suc, ◌+◌, ◌/◌, ◌%◌, true, false}
 use Rattle.std.proofs.Common.{cond, nat_lt, List, set, Option, Some, None, refl, sym, ◌∙◌, ap, arith}
 use Rattle.std.specs.List.{slice_get}
-use Rattle.std.specs.Option.{option_and_then}
 use Rattle.std.specs.Prelude.{Result, Ok}
 use Rattle.std.proofs.Math.ListN.{length-set}
-use Rattle.std.proofs.lemmas.Bool.{cases_eq}
 use Rattle.std.proofs.lemmas.List.{set-set}
-use Rattle.std.proofs.lemmas.Nat.{div-add-mod'}
 use Rattle.refword.specs.Words.{bits_of}
 use Rattle.layout.specs.declared.shape.Layout.{Layout}
 use Rattle.model.specs.declared.records.Scan.{Scan}
@@ -30,10 +27,8 @@ use Rattle.model.specs.Refusing.{◌>>=◌, or_refuse, Outcome}
 use Rattle.model.specs.Scans.{scan_of, with_scan, next_field, may_scan, reference_in}
 use Rattle.model.specs.Scans.{with_marked_place, mark_place, with_scan_end, scan_next, scan_field_outcome}
 use Rattle.model.specs.States.{Reference, HeapState, flat}
-use Rattle.model.specs.Stores.{StoreState, page_at, frame_in, at_offset, spot_of, word_in, word_at, with_word}
-use Rattle.model.specs.Stores.{with_words, changed_in, changed_frame}
-use Rattle.model.proofs.Lists.{get_set_same, get_set_other}
-use Rattle.model.proofs.Memory.{own_frame}
+use Rattle.model.specs.Stores.{StoreState, word_at, with_word}
+use Rattle.model.proofs.Lists.{get_set_same}
 use Rattle.forward.specs.Counts.{uncopied_count}
 use Rattle.page.proofs.Copied.{same_set}
 use Rattle.page.proofs.Runs.{words_keep}

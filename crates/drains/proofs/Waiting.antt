@@ -1,4 +1,4 @@
--- Objects that wait for their scan, and the heap in which it is noted that they are to be scanned.
+-- Objects that wait to be scanned, and the heap in which they are grey.
 use Rattle.std.proofs.Common.{◌≡◌, ◌≢◌, inl, inr, ℕ, zero, suc, ◌+◌, ◌-◌, ◌/◌, ◌%◌, ◌<◌, ◌&&◌, not, Bool}
 use Rattle.std.proofs.Common.{true, false, List, [], ◌∷◌, ◌++◌, reverse, get_or, is_some, length, Option, Some, None}
 use Rattle.std.proofs.Common.{refl, sym}

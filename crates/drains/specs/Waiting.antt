@@ -1,4 +1,4 @@
--- Objects that a drain has marked and will scan, of which the heap doesn't say that they are to be scanned (ours).
+-- Objects that a drain has marked and will scan, and that the heap hasn't made grey.
 use Rattle.std.specs.Prelude.{◌≡◌, ◌≢◌, ◌⊎◌, ℕ, ◌/◌, ◌<◌, true, false, Bool, List, [], ◌∷◌, Option, None, Some}
 use Rattle.std.specs.Prelude.{is_some}
 use Rattle.std.specs.List.{list_any}
@@ -10,12 +10,12 @@ use Rattle.model.specs.Scans.{is_free_todo, next_todo}
 use Rattle.model.specs.States.{HeapState}
 use Rattle.drains.specs.Drains.{scanned}
 
--- rows with the bits of addresses set too
+-- bitmaps with the bits of these addresses set too
 abbrev pub noting : List (List Bool) → ℕ → List ℕ → List (List Bool)
 noting rows words [] = rows
 noting rows words (a ∷ xs) = with_bit (noting rows words xs) words a true
 
--- the heap in which the objects at these addresses are to be scanned too
+-- the heap in which the objects at these addresses are grey too
 unfoldable pub all_noted : HeapState → List ℕ → HeapState
 all_noted h xs = record h { todo = noting h.todo h.store.words xs }
 
@@ -24,7 +24,7 @@ abbrev pub IsOther : ℕ → List ℕ → Type 0
 IsOther a [] = Unit {0}
 IsOther a (b ∷ ys) = (b ≢ a) × IsOther a ys
 
--- in rows of marks these objects are marked, and each of them stands here once
+-- these objects are marked in the mark bitmaps, and each of them is listed once
 abbrev pub AreWaiting : List (List Bool) → ℕ → List ℕ → Type 0
 AreWaiting mark words [] = Unit {0}
 AreWaiting mark words (a ∷ xs) =
@@ -36,12 +36,12 @@ pub record WaitBeside (h : HeapState) (a : ℕ) (xs : List ℕ) : Type 0 where
   pub other : IsOther a xs
   pub waiting : AreWaiting h.mark h.store.words xs
 
--- an object that was marked first, beside the one at address a that is scanned: it waits too and is another one, or the
--- heap has noted it
+-- an object that wasn't marked before, while the one at address a is scanned: it waits too and is another one, or the
+-- heap has made it grey
 abbrev pub Waits : ℕ → ℕ → HeapState → List ℕ → HeapState → List ℕ → Type 0
 Waits a t h xs g ys = ((ys ≡ t ∷ xs) × (g ≡ h) × (t ≢ a) × IsAddress t) ⊎ ((ys ≡ xs) × (g ≡ noted h t))
 
--- where it is said that no worker has an object, none has
+-- if `alone` is true, no worker has an object
 abbrev pub IsAlone : Bool → List (Option Scan) → Type 0
 IsAlone alone workers = alone ≡ true → list_any is_some workers ≡ false
 
@@ -53,7 +53,7 @@ pub record IsNextObject (h : HeapState) (xs : List ℕ) (a : ℕ) (g : HeapState
   pub waits : WaitBeside g a ys
   pub workers : g.workers ≡ h.workers
 
--- the next object, if there is one; else all is noted, and nothing is left
+-- the next object, if there is one; else all are grey, and nothing is left
 abbrev pub IsNext : HeapState → List ℕ → Option ℕ → HeapState → List ℕ → Type 0
 IsNext h xs None g ys = (g ≡ all_noted h xs) × (next_todo g ≡ None)
 IsNext h xs (Some a) g ys = IsNextObject h xs a g ys

@@ -1,4 +1,4 @@
-//! Objects that wait for their scan beside the heap's own rows (ours).
+//! Objects that wait to be scanned, apart from the heap's own bitmaps.
 
 ghost use Rattle.std.specs.Prelude.{◌≡◌, [], Some};
 ghost use Rattle.std.specs.Prelude.{reverse};
@@ -8,13 +8,12 @@ use arrayvec::ArrayVec;
 use heap::Heap;
 use refword::Addr;
 
-/// The addresses of objects that a drain has marked and will scan, and of which the heap hasn't
-/// noted that they are to be scanned: 64 at most. The newest one is scanned first, so that mostly no
-/// bit is set for an object and cleared again.
+/// The addresses of objects that a drain has marked and will scan, and that the heap hasn't made grey: 64 at most.
+/// The newest one is scanned first, so that mostly no bit is set for an object and cleared again.
 pub type Waiting = ArrayVec<u64, 64>;
 
-/// An object that was marked first waits, if there is room, and if it isn't the one at the address that
-/// is scanned; else the heap notes that it is to be scanned.
+/// Lets an object that wasn't marked before wait, if there is space, and if it isn't the one at `address`, which is
+/// being scanned; else makes it grey.
 #[inline(always)]
 pub fn wait(heap: &mut Heap, address: Addr, target: Addr, waiting: &mut Waiting)
     ensures { Waits address target heap.old (reverse waiting.old.items) heap.new (reverse waiting.new.items) }
@@ -26,7 +25,7 @@ pub fn wait(heap: &mut Heap, address: Addr, target: Addr, waiting: &mut Waiting)
     }
 }
 
-/// The heap notes of all objects that wait that they are to be scanned, and none waits any more.
+/// Makes all objects that wait grey; then none waits any more.
 pub fn note_all(heap: &mut Heap, waiting: &mut Waiting)
     requires { AreWaiting heap.old.mark heap.old.store.words (reverse waiting.old.items) }
     ensures heap { heap.new ≡ all_noted heap.old (reverse waiting.old.items) }

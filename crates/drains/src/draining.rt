@@ -1,5 +1,4 @@
-//! Objects are scanned, one after another (the paper's Mark phase; that it is one call, and the
-//! order, is ours).
+//! Scans objects, one after another.
 
 ghost use Rattle.std.specs.Prelude.{◌≡◌, ◌≢◌, ◌<◌, ◌≤◌, ◌∷◌, Ok, Some, None, MatchBool, slice_get};
 ghost use Rattle.std.specs.Prelude.{reverse, not, is_some, true, false, IfSome, length};
@@ -16,7 +15,7 @@ use marker::next_todo;
 use model::Scan;
 use refword::Addr;
 
-/// Whether a worker's scan is of the object at an address.
+/// Returns whether a worker's scan is of the object at an address.
 #[inline(always)]
 fn is_scan_of(address: u64, scan: Option<Scan>) -> bool
     ensures { result ≡ is_scan_of address scan }
@@ -27,7 +26,7 @@ fn is_scan_of(address: u64, scan: Option<Scan>) -> bool
     }
 }
 
-/// Whether some worker has the object at an address.
+/// Returns whether some worker has the object at an address.
 #[inline(always)]
 #[tactic(auto, unfolding(model::specs::Scans::is_taken))]
 fn is_taken(heap: &Heap, address: u64) -> bool
@@ -36,28 +35,28 @@ fn is_taken(heap: &Heap, address: u64) -> bool
     heap.workers().iter().any(|scan| is_scan_of(address, *scan))
 }
 
-/// Whether a worker's scan is of some object.
+/// Returns whether a worker's scan is of some object.
 fn is_scan(scan: Option<Scan>) -> bool
     ensures { result ≡ is_some scan }
 {
     scan.is_some()
 }
 
-/// Whether some worker has an object.
+/// Returns whether some worker has an object.
 fn has_scans(heap: &Heap) -> bool
     ensures { result ≡ list_any is_some heap.now.workers }
 {
     heap.workers().iter().any(|scan| is_scan(*scan))
 }
 
-/// Whether no worker has an object.
+/// Returns whether no worker has an object.
 fn is_alone(heap: &Heap) -> bool
     ensures { result ≡ not (list_any is_some heap.now.workers) }
 {
     !has_scans(heap)
 }
 
-/// Whether no worker has the object at an address. Where no worker has any, that is not looked at.
+/// Returns whether no worker has the object at an address. If no worker has any, this isn't looked up.
 #[inline(always)]
 #[tactic(auto, using(crate::proofs::Waiting::none_taken))]
 fn is_untaken(heap: &Heap, alone: bool, address: u64) -> bool
@@ -70,8 +69,8 @@ fn is_untaken(heap: &Heap, alone: bool, address: u64) -> bool
     !is_taken(heap, address)
 }
 
-/// The next object, where none waits: the one with the least address of those that are still to be
-/// scanned and that no worker has.
+/// Makes all objects that wait grey, and returns the next one: the grey object with the least address that no worker
+/// has, or `None`.
 fn noted_next(heap: &mut Heap, waiting: &mut Waiting) -> Option<Addr>
     requires { AreWaiting heap.old.mark heap.old.store.words (reverse waiting.old.items) }
     ensures { IsNext heap.old (reverse waiting.old.items) result heap.new (reverse waiting.new.items) }
@@ -80,8 +79,8 @@ fn noted_next(heap: &mut Heap, waiting: &mut Waiting) -> Option<Addr>
     next_todo(heap)
 }
 
-/// An object that waited is the next one. Where another worker has it, which no heap comes to, all are
-/// noted, and the next one is found there.
+/// Returns an object that waited as the next one. If another worker has it, which never occurs, all are made grey,
+/// and the next one is found among them.
 #[inline(always)]
 fn waited_next(heap: &mut Heap, alone: bool, address: Addr, waiting: &mut Waiting) -> Option<Addr>
     requires alone { IsAlone alone heap.old.workers }
@@ -96,8 +95,8 @@ fn waited_next(heap: &mut Heap, alone: bool, address: Addr, waiting: &mut Waitin
     noted_next(heap, waiting)
 }
 
-/// The next object that a drain scans: the one that waits and was marked last, else one that the heap
-/// has noted.
+/// Returns the next object that a drain scans: of those that wait, the one that was marked last; else a grey one; or
+/// `None`.
 #[inline(always)]
 fn next_object(heap: &mut Heap, alone: bool, waiting: &mut Waiting) -> Option<Addr>
     requires alone { IsAlone alone heap.old.workers }
@@ -110,7 +109,7 @@ fn next_object(heap: &mut Heap, alone: bool, waiting: &mut Waiting) -> Option<Ad
     }
 }
 
-/// Whether a worker is there, and has no object.
+/// Returns whether a worker exists and has no object.
 fn is_free(heap: &Heap, worker: u32) -> bool
     ensures { MatchBool result (slice_get heap.now.workers worker ≡ Some None)
         (slice_get heap.now.workers worker ≢ Some None) }
@@ -121,7 +120,7 @@ fn is_free(heap: &Heap, worker: u32) -> bool
     }
 }
 
-/// Whether a mark runs that all threads have crossed: else no worker scans anything.
+/// Returns whether a mark runs that all threads have crossed: else no worker scans anything.
 #[tactic(auto, unfolding(model::specs::Scans::may_scan))]
 pub fn may_scan(heap: &Heap) -> bool
     ensures { MatchBool result (may_scan heap.now ≡ Ok tt) (may_scan heap.now ≢ Ok tt) }
@@ -129,8 +128,8 @@ pub fn may_scan(heap: &Heap) -> bool
     heap.phase().is_marking() && heap.all_crossed().is_ok()
 }
 
-/// Whether a worker may scan objects whole: a mark runs that all threads have crossed, nothing is
-/// left to be copied, and the worker is there and has no object.
+/// Returns whether a worker may scan objects completely: a mark runs that all threads have crossed, nothing is left
+/// to be copied, and the worker exists and has no object.
 #[tactic(auto, using(crate::proofs::Drained::ready_is))]
 pub fn is_ready(heap: &Heap, worker: u32) -> bool
     ensures { MatchBool result (IsReady heap.now worker) (¬ IsReady heap.now worker) }
@@ -138,13 +137,13 @@ pub fn is_ready(heap: &Heap, worker: u32) -> bool
     may_scan(heap) && heap.sides().uncopied() == 0 && is_free(heap, worker)
 }
 
-/// What is left of a mark is drained by a worker that is ready, as one call: it marks the globals
-/// that are still to be marked, and then picks and scans objects, at most so many, until none is left
-/// that no worker has; it answers how many. Workers count from 0.
+/// Drains the rest of a mark by a worker that is ready, as one call: it marks the grey globals, and then picks and
+/// scans objects, at most `most`, until none is left that no worker has. Returns how many objects it scanned. Workers
+/// count from 0.
 ///
-/// It does what some steps `ScanGlobal`, `Pick` and `ScanField` of the worker do, of which so many are
-/// `Pick`. Where it answers fewer than the most, the worker has nothing more to do. Where the heap
-/// stands for a plain heap, it stands for the same one after it. It takes no memory.
+/// It does what some steps `ScanGlobal`, `Pick` and `ScanField` of the worker do, with one `Pick` for each object. If
+/// it returns less than `most`, the worker has nothing more to do. A heap that represents a reference model still
+/// represents it afterwards. It takes no memory.
 pub fn drain(heap: &mut Heap, worker: u32, most: u64) -> u64
     requires { IsReady heap.old worker }
     ensures drained { IsDrained heap.old worker result heap.new }
@@ -159,7 +158,7 @@ pub fn drain(heap: &mut Heap, worker: u32, most: u64) -> u64
     portion.objects
 }
 
-/// What a portion of a drain came to (ours).
+/// The result of a quantum: a bounded part of a drain.
 #[derive(Clone, Copy, Debug, PartialEq, Eq)]
 pub struct Portion {
     /// How many objects were scanned.
@@ -168,9 +167,9 @@ pub struct Portion {
     pub has_ended: bool,
 }
 
-/// A portion of a drain, in which also the references are bounded (ours): as `drain`, but it stops behind
-/// the object with which so many references were scanned, as well. An object has at most 1,023 references.
-/// Where it may scan any object and reference, it scans one, or nothing is left.
+/// A quantum in which the references are bounded too: like `drain`, but it also stops after the object with which
+/// `references` references were scanned. An object has at most 1,023 references. If both bounds are above 0, it scans
+/// at least one object, or nothing is left.
 pub fn drain_some(heap: &mut Heap, worker: u32, most: u64, references: u64) -> Portion
     requires { IsReady heap.old worker }
     ensures drained { IsDrained heap.old worker result.objects heap.new }
@@ -185,7 +184,7 @@ pub fn drain_some(heap: &mut Heap, worker: u32, most: u64, references: u64) -> P
     scan_objects(heap, worker, most, Some(references))
 }
 
-/// Whether so many references are as many as are to be scanned, if that is bounded.
+/// Returns whether the number of scanned references has reached its limit, if there is one.
 #[inline(always)]
 fn is_enough(scanned: u64, limit: Option<u64>) -> bool
     ensures free { limit ≡ None → result ≡ false }
@@ -197,8 +196,8 @@ fn is_enough(scanned: u64, limit: Option<u64>) -> bool
     }
 }
 
-/// A worker picks and scans objects, at most so many, and, where there is a limit, until so many
-/// references were scanned, or until none is left that no worker has.
+/// Picks and scans objects for a worker: at most `most`, until `limit` references were scanned, if there is a limit,
+/// or until none is left that no worker has.
 fn scan_objects(heap: &mut Heap, worker: u32, most: u64, limit: Option<u64>) -> Portion
     requires { IsReady heap.old worker }
     ensures done { ObjectsDone heap.old worker result.objects heap.new }

@@ -1,4 +1,4 @@
-//! Globals are marked, one after another (the paper's Mark phase; that it is one call is ours).
+//! Marks globals, one after another.
 
 ghost use Rattle.std.specs.Prelude.{◌≡◌, ◌<◌, ◌≤◌, ◌^◌, true, length, slice_get};
 ghost use Rattle.model.specs.References.{global_of};
@@ -7,7 +7,7 @@ ghost use Rattle.drains.specs.Drains.{IsReady, HasDrained, NoneTodo, with_global
 
 use heap::{Heap, RawCollectorEdits};
 
-/// Whether a global has still to be marked.
+/// Returns whether a global is grey: still to be marked.
 fn is_todo(heap: &Heap, number: u32) -> bool
     ensures { result ≡ is_todo_in (slice_get heap.now.globals number) }
 {
@@ -28,7 +28,7 @@ fn mark_global(heap: &mut Heap, number: u32)
     heap.set_marked_global(number, marked);
 }
 
-/// Marks a global, where it is still to be marked.
+/// Marks a global, if it is grey.
 #[tactic(auto, unfolding(crate::specs::Drains::with_global_done))]
 fn end_global(heap: &mut Heap, number: u32)
     ensures { heap.new ≡ with_global_done heap.old number }
@@ -38,7 +38,7 @@ fn end_global(heap: &mut Heap, number: u32)
     }
 }
 
-/// How many globals there are.
+/// Returns how many globals there are.
 fn global_count(heap: &Heap) -> u32
     ensures { result ≡ length heap.now.globals }
 {
@@ -46,7 +46,7 @@ fn global_count(heap: &Heap) -> u32
     heap.globals().len() as u32
 }
 
-/// Marks all globals that are still to be marked. A worker that is ready does it.
+/// Marks all grey globals. It is done by a worker that is ready.
 pub fn mark_globals(heap: &mut Heap, worker: u32)
     requires { IsReady heap.old worker }
     ensures drained { HasDrained heap.old worker 0 heap.new }

@@ -1,4 +1,4 @@
-//! Drains of a mark, without a history: a worker scans object after object, and each is scanned whole.
+//! Mark drains, without a history: a worker scans object after object, each one completely.
 #![tactic(auto)]
 
 mod backlog;

@@ -1,4 +1,4 @@
--- What a call did, by what was held before it and after it.
+-- The effect of a call, by the handle's contents before it and after it.
 use Rattle.std.proofs.Common.{◌≡◌, ℕ, Bool, true, false, List, Option, Some, refl, subst}
 use Rattle.std.specs.Prelude.{Result, Ok, MatchResult}
 use Rattle.model.specs.declared.steps.Refusal.{Refusal}
@@ -30,7 +30,7 @@ there : (Q : Option Held → Option Held → Type 0) (b g : Held) (old new : Opt
 there Q b g old new was is k =
     subst (λ (o : Option Held). new ≡ replaced o g → Q o new) was k is
 
--- of a call on what is held, by what it did to that
+-- of a call on a handle's contents, by its effect on them
 pub on_held : (P : Held → ℕ → Held → Type 0) (b : Held) (old : Option Held) (code : ℕ) (g : Held) (new : Option Held)
     → Some b ≡ old → P b code g → new ≡ replaced old g → OnHeld P old code new
 on_held P b old code g new was did is =
@@ -73,7 +73,7 @@ pub looked : {A : Type 0} (answer : A → Answer) (t : ℕ) (step : Step) (Q : A
 looked answer t step Q S b old r code new was does stands gave says is =
     given (step_code step) (Stepped answer t step) Q S b old r code b new was (does, stands) gave says is
 
--- of a whole load
+-- of a complete load
 pub loaded : (t : ℕ) (begin : Step) (b : Held) (old : Option Held) (r : Result Unit Refusal) (code : ℕ) (g : Held)
     (new : Option Held)
     → Some b ≡ old → LoadsWhole b.heap t begin r g.heap → LoadStands b.heap t begin r g.heap

@@ -8,7 +8,7 @@ use Rattle.model.specs.States.{HeapState}
 use Rattle.foreign.specs.Codes.{NO_HEAP}
 use Rattle.foreign.specs.Which.{load_code}
 
--- the code of what came of several loads of an object: that of the load which failed, as the heap is then
+-- the code of the result of several loads of an object: that of the load which failed, on the heap then
 abbrev pub code_of_loads : ℕ → List FieldLoad → HeapState → Result Unit LoadsFault → ℕ
 code_of_loads object ls h (Ok u) = 0
 code_of_loads object ls h (Err f) = load_code object (slice_get ls f.done) h f.refusal
@@ -18,8 +18,8 @@ abbrev pub done_of_loads : List FieldLoad → Result Unit LoadsFault → ℕ
 done_of_loads ls (Ok u) = length ls
 done_of_loads ls (Err f) = f.done
 
--- if there is no heap, the code says so, and none is done; else the loads are done on it, as far as the code and what
--- is written for C say
+-- if there is no heap, the code is NO_HEAP, and none is done; else the loads are done on it, as far as the code and
+-- the count that is written for C say
 abbrev pub LoadsEach : ℕ → ℕ → List FieldLoad → Option Held → ℕ → ℕ → Option Held → Type 0
 LoadsEach t object ls None code done new = (code ≡ NO_HEAP) × (done ≡ 0) × (new ≡ None)
 LoadsEach t object ls (Some h) code done new =

@@ -1,4 +1,4 @@
--- The codes that calls answer C. A code's class is its low eight bits: what is above them says more.
+-- The codes that calls return to C. A code's class is its low eight bits: the higher bits are more specific.
 use Rattle.std.specs.Prelude.{ℕ, ◌%◌, Option, Some, None, Result, Ok, Err, if◌then◌else◌}
 use Rattle.model.specs.declared.steps.Refusal.{Refusal}
 use Rattle.model.specs.declared.steps.Refusal.TheVariants as refusals
@@ -19,11 +19,11 @@ NO_HEAP = 1
 abbrev pub HAS_HEAP : ℕ
 HAS_HEAP = 2
 
--- memory was refused
+-- out of memory
 abbrev pub NO_MEMORY : ℕ
 NO_MEMORY = 29
 
--- the code of a refusal
+-- the code of an error
 unfoldable pub refusal_code : Refusal → ℕ
 refusal_code refusals.NoActor = 3
 refusal_code refusals.BadIndex = 4
@@ -66,7 +66,7 @@ config_code faults.Layouts = 37
 config_code faults.Births = 38
 config_code faults.History = 39
 
--- a number names nothing, and it isn't known which
+-- a number names nothing, and it isn't known which one
 abbrev pub BAD_INDEX : ℕ
 BAD_INDEX = 4
 
@@ -80,7 +80,7 @@ number_code numbers.Field = 1028
 number_code numbers.Datum = 1284
 number_code numbers.Words = 1540
 
--- the same, if it is known which
+-- number_code, if it is known which
 abbrev pub wrong_code : Option Number → ℕ
 wrong_code None = BAD_INDEX
 wrong_code (Some n) = number_code n
@@ -93,8 +93,8 @@ OBJECT_TOO_LARGE = 268
 abbrev pub LAYOUT_TOO_LARGE : ℕ
 LAYOUT_TOO_LARGE = 293
 
--- the code of the first field of a configuration that is out of its range, which has so many layouts: RANGE_OF_LAYOUTS
--- says that these are too few or too many; else an object of one of them is too large
+-- the code of the first field of a configuration that is out of its range, which has `count` layouts:
+-- RANGE_OF_LAYOUTS if these are too few or too many; else an object of one of them is too large
 abbrev pub fault_code : ℕ → ConfigFault → ℕ
 fault_code count faults.Layouts =
     if is_outside count 1 MOST_LAYOUTS then config_code faults.Layouts else LAYOUT_TOO_LARGE
@@ -110,11 +110,11 @@ policy_code policies.Percent = 809
 abbrev pub class_of : ℕ → ℕ
 class_of code = code % 256
 
--- the code of what came of a call, by that of a refusal
+-- the code of the result of a call, by that of an error
 abbrev pub code_by : {A : Type 0} → (Refusal → ℕ) → Result A Refusal → ℕ
 code_by c (Ok x) = 0
 code_by c (Err e) = c e
 
--- the same where a refusal says all
+-- code_by, if the error alone determines the code
 abbrev pub code_of : {A : Type 0} → Result A Refusal → ℕ
 code_of r = code_by refusal_code r

@@ -1,4 +1,4 @@
--- What a handle holds.
+-- The contents of a handle.
 use Rattle.std.specs.Prelude.{Bool, true, false, Option, Some, None}
 use mir.Syntax.{Ty}
 use base.Fml.{Fml, ftrue}
@@ -23,7 +23,7 @@ abbrev pub is_held : Option Held → Bool
 is_held None = false
 is_held (Some h) = true
 
--- what is in the box, if there is one
+-- the contents of the box, if there is one
 abbrev pub held_in : {Z : Type 0} → Option (Box Held Z) → Option Held
 held_in None = None
 held_in (Some b) = Some b.value

@@ -13,7 +13,7 @@ use Rattle.foreign.specs.declared.making.LayoutOfC.{LayoutOfC}
 use Rattle.foreign.specs.declared.making.SizesOfC.{SizesOfC}
 use Rattle.foreign.specs.Codes.{HAS_HEAP, NO_MEMORY, fault_code}
 
--- what serves most heaps of so many frames of so many words
+-- sizes that serve most heaps of this many frames of `words`
 unfoldable pub usual_sizes : ℕ → ℕ → SizesOfC
 usual_sizes words frames = record {
   words = words;
@@ -26,7 +26,7 @@ usual_sizes words frames = record {
   births = MOST_BIRTHS;
 }
 
--- a layout as the heap has it
+-- a layout of C for the heap
 abbrev pub layout_of : LayoutOfC → Layout
 layout_of l = record { refs = l.refs; nums = l.nums }
 
@@ -45,18 +45,18 @@ config_of s layouts = record {
   history = MOST_HISTORY;
 }
 
--- why none was made: memory was refused, or this field is the first one out of its range
+-- why none was made: out of memory, or this field is the first one out of its range
 abbrev pub FailsMaking : Config → ℕ → Type 0
 FailsMaking c code =
     (code ≡ NO_MEMORY)
     ⊎ ((f : ConfigFault) × (first_fault c ≡ Some f) × (code ≡ fault_code (length c.layouts) f))
 
--- a heap in a box is the first one of its configuration; or the code says why there is none
+-- a heap in a box is the first one of its configuration; or the code is the reason why there is none
 abbrev pub MadeOf : {Z : Type 0} → Config → Result (Box Held Z) ℕ → Type 0
 MadeOf c (Ok b) = MakesHeap c (Ok b.value.heap)
 MadeOf c (Err code) = FailsMaking c code
 
--- the same, of what a handle holds that had none
+-- MadeOf for the contents of a handle that had none
 abbrev pub MakesFirst : Config → ℕ → Option Held → Type 0
 MakesFirst c code None = FailsMaking c code
 MakesFirst c code (Some h) = (code ≡ 0) × MakesHeap c (Ok h.heap)

@@ -1,7 +1,5 @@
 -- Calls whose policy or percentage is tested first.
 use Rattle.std.specs.Prelude.{◌≡◌, ℕ, nat_lt, Bool, List, Option, Some, None, Result, MatchResult, if◌then◌else◌}
-use Rattle.model.specs.declared.config.Config.{Config}
-use Rattle.collecting.specs.declared.policy.Policy.{Policy}
 use Rattle.collecting.specs.declared.policy.PolicyFault.{PolicyFault}
 use Rattle.collecting.specs.declared.policy.PolicyFault.TheVariants as policies
 use Rattle.collecting.specs.declared.collecting.Collected.{Collected}
@@ -17,7 +15,7 @@ use Rattle.foreign.specs.Codes.{code_of, policy_code}
 use Rattle.foreign.specs.Calls.{CodedBy, CollectedBy, IsTold, Made, MadeWith, PartOf, Refilled}
 use Rattle.foreign.specs.Which.{fill_code, make_code, plain_code}
 
--- a call was done, if what it was given is in its range; else the code says what isn't, and nothing was done
+-- a call was done, if its policy or percentage is in its range; else the code says what isn't, and nothing was done
 abbrev pub InRange : Option PolicyFault → (Held → ℕ → Held → Type 0) → Held → ℕ → Held → Type 0
 InRange None P h code g = P h code g
 InRange (Some f) P h code g = (code ≡ policy_code f) × (g ≡ h)
@@ -35,7 +33,7 @@ abbrev pub MakesBy : PolicyOfC → ℕ → ℕ → ℕ → Held → ℕ → Held
 MakesBy p t target layout h code g =
     ByPolicy p (CodedBy (make_code p.words target layout) (Made p.words p.percent t target layout)) h code g
 
--- the same, and to fill it
+-- thread t was to make an object by a policy, and to fill it
 abbrev pub MakesWithBy : PolicyOfC → ℕ → ℕ → ℕ → List ℕ → List ℕ → Held → ℕ → Held → Type 0
 MakesWithBy p t target layout sources nums h code g =
     ByPolicy p (CodedBy (fill_code p.words target layout sources)
@@ -49,12 +47,12 @@ RefillsBy p t h code g = ByPolicy p (CodedBy plain_code (Refilled p.words p.perc
 abbrev pub percent_fault : ℕ → Option PolicyFault
 percent_fault percent = if nat_lt 100 percent then Some policies.Percent else None
 
--- the same of a call with a percentage: S says that nothing was written
+-- InRange for a call with a percentage: S is that nothing was written
 abbrev pub ByPercent : Option PolicyFault → Type 0 → (Held → ℕ → Held → Type 0) → Held → ℕ → Held → Type 0
 ByPercent None S P h code g = P h code g
 ByPercent (Some f) S P h code g = (code ≡ policy_code f) × (g ≡ h) × S
 
--- a call was done whose result is written for C, as Q says; S says that nothing was written
+-- a call was done whose result is written for C, by Q; S is that nothing was written
 abbrev pub GivenBy : {A : Type 0} → (Held → Result A Refusal → Held → Type 0) → (A → Type 0) → Type 0 → Held → ℕ
     → Held → Type 0
 GivenBy {A} P Q S h code g = (r : Result A Refusal) × P h r g × MatchResult r Q (λ _. S) × (code ≡ code_of r)
@@ -65,7 +63,7 @@ CollectsHeld percent h r g =
     CollectedBy percent h.heap r g.heap
     × (g.counters ≡ seen_in_use (in_use g.heap) (counted causes.Call r h.counters))
 
--- a part of one, which was counted
+-- a part of a collection, which was counted
 abbrev pub PartHeld : ℕ → ℕ → Held → Result Bool Refusal → Held → Type 0
 PartHeld percent budget h r g =
     PartOf percent budget h r g
@@ -77,7 +75,7 @@ CollectsBy percent old new h code g =
     ByPercent (percent_fault percent) (new ≡ old)
     (GivenBy (CollectsHeld percent) (IsTold new) (new ≡ old)) h code g
 
--- the same of a part of one
+-- a part of a collection was done, if the percentage is in its range
 abbrev pub PartsBy : ℕ → ℕ → Bool → Bool → Held → ℕ → Held → Type 0
 PartsBy percent budget old new h code g =
     ByPercent (percent_fault percent) (new ≡ old)

@@ -1,5 +1,5 @@
-//! The codes that calls answer C: 0 where a call was done, else why it wasn't. A code's class is its low eight bits;
-//! what is above them says more, as which number names nothing.
+//! The codes that calls return to C: 0 if a call was done, else the reason. A code's class is its low eight bits;
+//! the higher bits are more specific, as which number names nothing.
 
 ghost use Rattle.std.specs.Prelude.{◌≡◌, ◌≢◌};
 ghost use Rattle.collecting.specs.declared.numbers.Number.TheVariants as numbers;
@@ -18,13 +18,13 @@ pub(crate) const NO_HEAP: u32 = 1;
 /// The handle has a heap already.
 pub(crate) const HAS_HEAP: u32 = 2;
 
-/// Memory was refused.
+/// Out of memory.
 pub(crate) const NO_MEMORY: u32 = 29;
 
 /// The verifier found a fault.
 pub(crate) const UNSOUND: u32 = 40;
 
-/// A number names nothing, and it isn't known which.
+/// A number names nothing, and it isn't known which one.
 pub(crate) const BAD_INDEX: u32 = 4;
 
 /// An object is larger than the buffers of the policy: of the class of `NoRoom`.
@@ -36,7 +36,7 @@ pub(crate) const RANGE_OF_LAYOUTS: u32 = 37;
 /// An object of a layout is larger than a page: of the class of `RANGE_OF_LAYOUTS`.
 pub(crate) const LAYOUT_TOO_LARGE: u32 = 293;
 
-/// The code of a number of this kind that names nothing.
+/// Returns the code of a number of this kind that names nothing.
 #[tactic(auto, unfolding(crate::specs::Codes::number_code))]
 pub(crate) fn number_code(number: Number) -> u32
     ensures code { result ≡ number_code number }
@@ -53,7 +53,7 @@ pub(crate) fn number_code(number: Number) -> u32
     }
 }
 
-/// The code of the first field of a policy that is out of its range.
+/// Returns the code of the first field of a policy that is out of its range.
 #[tactic(auto, unfolding(crate::specs::Codes::policy_code))]
 pub(crate) fn policy_code(fault: PolicyFault) -> u32
     ensures { result ≡ policy_code fault }
@@ -65,7 +65,7 @@ pub(crate) fn policy_code(fault: PolicyFault) -> u32
     }
 }
 
-/// The code of a refusal.
+/// Returns the code of an error.
 #[tactic(auto, unfolding(crate::specs::Codes::refusal_code))]
 pub(crate) fn refusal_code(refusal: Refusal) -> u32
     ensures code { result ≡ refusal_code refusal }
@@ -102,7 +102,7 @@ pub(crate) fn refusal_code(refusal: Refusal) -> u32
     }
 }
 
-/// The code of the first field of a configuration that is out of its range.
+/// Returns the code of the first field of a configuration that is out of its range.
 #[tactic(auto, unfolding(crate::specs::Codes::config_code))]
 pub(crate) fn config_code(fault: ConfigFault) -> u32
     ensures code { result ≡ config_code fault }
@@ -122,8 +122,8 @@ pub(crate) fn config_code(fault: ConfigFault) -> u32
     }
 }
 
-/// The code of the first field of a configuration that is out of its range: of the layouts, whether one of them is too
-/// large, if there are `count` of them.
+/// Returns the code of the first field of a configuration that is out of its range: for the layouts, whether one of
+/// them is too large, if there are `count` of them.
 #[tactic(auto, unfolding(crate::specs::Codes::config_code))]
 pub(crate) fn fault_code(count: usize, fault: ConfigFault) -> u32
     ensures code { result ≡ fault_code count fault }

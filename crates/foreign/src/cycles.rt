@@ -16,13 +16,13 @@ use std::alloc::Global;
 #[repr(C)]
 #[derive(Clone, Copy)]
 pub struct CollectedOfC {
-    /// How many objects its mark found.
+    /// How many live objects its mark found.
     pub live: u64,
     /// How many pages were emptied.
     pub emptied: u64,
 }
 
-/// What a collection has done, for C.
+/// Writes what a collection has done for C.
 fn tell_collected(collected: Collected, done: &mut CollectedOfC)
     ensures { IsTold done.new collected }
 {
@@ -112,8 +112,8 @@ fn part_tested(
     }
 }
 
-/// Does the next part of a collection, with a budget of so many objects. Fails as `Holding::collect_some`
-/// does, and for a percentage above 100.
+/// Does the next part of a collection, which scans at most `budget` objects. Fails as `Holding::collect_some` does,
+/// and for a percentage above 100.
 #[tactic(auto, using(crate::proofs::Calling::on_held_or))]
 #[unsafe(no_mangle)]
 pub extern "C" fn pauseless_collect_some(

@@ -1,19 +1,21 @@
 //! The data of objects.
 
-ghost use Rattle.std.specs.Prelude.{◌≡◌, length};
+ghost use Rattle.std.specs.Prelude.{◌≡◌, ◌/◌, length};
 ghost use Rattle.model.specs.Saying.{done};
 ghost use Rattle.model.specs.declared.steps.Step.TheVariants as steps;
 ghost use Rattle.model.specs.declared.steps.Answer.TheVariants as answers;
-ghost use Rattle.foreign.specs.Calls.{Calls, CallsStep, GivesStep, ReadMany, WroteMany};
-ghost use Rattle.foreign.specs.Which.{step_code};
+ghost use Rattle.foreign.specs.Calls.{Calls, CallsStep, CopiedData, GivesStep, ReadBytes, ReadMany, WroteBytes};
+ghost use Rattle.foreign.specs.Calls.{WroteMany};
+ghost use Rattle.foreign.specs.Which.{copy_data_code, step_code};
 
 use crate::codes::{DONE, NO_HEAP};
 use crate::handle::Handle;
 use crate::refusals::{get_code, set_code};
+use crate::which::copy_data_code;
 use collecting::Holding;
 use cycle::Mutating;
 
-/// A read of a datum that isn't done in one go, by its tests.
+/// Reads a data word by its tests, if it isn't read at once.
 #[tactic(auto, using(crate::proofs::Calling::looked))]
 #[cold]
 #[inline(never)]
@@ -33,7 +35,7 @@ fn get_by_tests(heap: &mut Handle, thread: u32, object: u32, index: u32, value: 
     }
 }
 
-/// Reads a datum of an object. Refused as `Mutating::datum` is.
+/// Reads a data word of an object. Fails as `Mutating::datum` does.
 #[unsafe(no_mangle)]
 pub extern "C" fn pauseless_get(
     heap: &mut Handle,
@@ -55,7 +57,7 @@ pub extern "C" fn pauseless_get(
     get_by_tests(heap, thread, object, index, value)
 }
 
-/// A write of a datum that isn't done in one go, by its tests.
+/// Writes a data word by its tests, if it isn't written at once.
 #[tactic(auto, using(crate::proofs::Calling::stepped))]
 #[cold]
 #[inline(never)]
@@ -72,7 +74,7 @@ fn set_by_tests(heap: &mut Handle, thread: u32, object: u32, index: u32, value: 
     }
 }
 
-/// Writes a datum of an object. Refused as `Mutating::set_datum` is.
+/// Writes a data word of an object. Fails as `Mutating::set_datum` does.
 #[unsafe(no_mangle)]
 pub extern "C" fn pauseless_set(
     heap: &mut Handle,
@@ -93,8 +95,8 @@ pub extern "C" fn pauseless_set(
     set_by_tests(heap, thread, object, index, value)
 }
 
-/// Reads data words of an object, from one by its number on, as many as C has room for. Fails as `Holding::get_many`
-/// does, and then nothing is said of what stands there.
+/// Reads data words of an object, from word `first` on, until `values` is full. Fails as `Holding::get_many` does,
+/// and then `values` is unspecified.
 #[tactic(auto, using(crate::proofs::Calling::called))]
 #[unsafe(no_mangle)]
 pub extern "C" fn pauseless_get_many(
@@ -117,7 +119,7 @@ pub extern "C" fn pauseless_get_many(
     }
 }
 
-/// Writes data words of an object, from one by its number on. Fails as `Holding::set_many` does.
+/// Writes data words of an object, from word `first` on. Fails as `Holding::set_many` does.
 #[tactic(auto, using(crate::proofs::Calling::called))]
 #[unsafe(no_mangle)]
 pub extern "C" fn pauseless_set_many(
@@ -136,5 +138,78 @@ pub extern "C" fn pauseless_set_many(
     match held.heap.set_many(thread, object, first, values) {
         Ok(()) => DONE,
         Err(refusal) => get_code(&held.heap, object, first, refusal),
+    }
+}
+
+/// Copies data words of one object to another, or within one. Fails as `Holding::copy_data` does.
+#[tactic(auto, using(crate::proofs::Calling::called))]
+#[unsafe(no_mangle)]
+pub extern "C" fn pauseless_copy_data(
+    heap: &mut Handle,
+    thread: u32,
+    target: u32,
+    first: u32,
+    source: u32,
+    first_of_source: u32,
+    count: usize,
+) -> u32
+    ensures { Calls (copy_data_code target source) (CopiedData thread target first source first_of_source count)
+        heap.old.slot.held result heap.new.slot.held }
+{
+    let Some(held) = heap.lend() else {
+        return NO_HEAP;
+    };
+    match held
+        .heap
+        .copy_data(thread, target, first, source, first_of_source, count)
+    {
+        Ok(()) => DONE,
+        Err(refusal) => copy_data_code(&held.heap, target, source, refusal),
+    }
+}
+
+/// Reads bytes of an object's data, from byte `offset` on, until `bytes` is full. Fails as `Holding::read_bytes`
+/// does, and then `bytes` is unspecified.
+#[tactic(auto, using(crate::proofs::Calling::called))]
+#[unsafe(no_mangle)]
+pub extern "C" fn pauseless_read_bytes(
+    heap: &mut Handle,
+    thread: u32,
+    object: u32,
+    offset: u32,
+    bytes: &mut [u8],
+) -> u32
+    ensures len { length bytes.new ≡ length bytes.old }
+    ensures call { Calls (step_code (steps.Datum object (offset / 8))) (ReadBytes thread object offset bytes.new)
+        heap.old.slot.held result heap.new.slot.held }
+{
+    let Some(held) = heap.lend() else {
+        return NO_HEAP;
+    };
+    match held.heap.read_bytes(thread, object, offset, bytes) {
+        Ok(()) => DONE,
+        Err(refusal) => get_code(&held.heap, object, offset / 8, refusal),
+    }
+}
+
+/// Writes bytes of an object's data, from byte `offset` on. Fails as `Holding::write_bytes` does.
+#[tactic(auto, using(crate::proofs::Calling::called))]
+#[unsafe(no_mangle)]
+pub extern "C" fn pauseless_write_bytes(
+    heap: &mut Handle,
+    thread: u32,
+    object: u32,
+    offset: u32,
+    bytes: &[u8],
+) -> u32
+    ensures { Calls (step_code (steps.Datum object (offset / 8))) (WroteBytes thread object offset bytes.now)
+        heap.old.slot.held result heap.new.slot.held }
+{
+    let Some(held) = heap.lend() else {
+        return NO_HEAP;
+    };
+    match held.heap.write_bytes(thread, object, offset, bytes) {
+        Ok(()) => DONE,
+        Err(refusal) => get_code(&held.heap, object, offset / 8, refusal),
     }
 }

@@ -1,4 +1,4 @@
-//! What C holds.
+//! The handle that C holds.
 
 ghost use Rattle.std.specs.Prelude.{◌≡◌, ◌==◌, Some, None};
 ghost use Rattle.foreign.specs.Holding.{held_in, is_held};
@@ -11,7 +11,7 @@ use std::alloc::Global;
 /// The mark of a handle that has a heap: the letters `pauseles` in a word, the first one lowest.
 pub(crate) const MARK: u64 = 8_315_171_469_994_058_096;
 
-/// What C holds: `pauseless_heap`. It has a heap where it is marked, and else none.
+/// `pauseless_heap`, the handle that C holds. It has a heap if it is marked, else none.
 #[repr(C)]
 #[derive(Drop)]
 pub struct Handle {
@@ -21,7 +21,7 @@ pub struct Handle {
 }
 
 impl Handle {
-    /// One without a heap.
+    /// Makes a handle without a heap.
     fn empty() -> Handle
         ensures { result.slot.held ≡ None }
     {
@@ -31,7 +31,7 @@ impl Handle {
         }
     }
 
-    /// The handle gets a heap.
+    /// Puts a heap into the handle.
     pub(crate) fn put(&mut self, held: Box<Held>)
         ensures { self.new.slot.held ≡ Some held.value }
     {
@@ -41,7 +41,7 @@ impl Handle {
         };
     }
 
-    /// Takes the heap out, where there is one.
+    /// Takes the heap out, if there is one.
     pub(crate) fn take(&mut self, alloc: Global) -> Option<Box<Held>>
         ensures taken { held_in result ≡ self.old.slot.held }
         ensures empty { self.new.slot.held ≡ None }

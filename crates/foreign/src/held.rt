@@ -1,4 +1,4 @@
-//! What a handle leads to.
+//! The heap of a handle, and the records alongside it.
 
 ghost use Rattle.std.specs.Prelude.{◌≡◌, ◌-◌};
 ghost use Rattle.collecting.specs.Targets.{larger};
@@ -6,25 +6,25 @@ ghost use Rattle.collecting.specs.Targets.{larger};
 use collecting::{Counters, Holding, Parts, Target};
 use managed::ManagedHeap;
 
-/// A heap, how far a collection in parts has come, how many frames the heap may use until it is collected, and what its
-/// collections have come to.
+/// A heap, how far a collection in parts has come, how many frames the heap may use until it is collected, and its
+/// collections' counters.
 #[derive(Drop)]
 pub struct Held {
     /// The heap.
     pub heap: ManagedHeap,
-    /// The part of a collection that comes next.
+    /// How far a collection in parts has come.
     pub parts: Parts,
     /// Whether the heap's memory follows what lives in it.
     pub follows: bool,
     /// How many frames the heap may use until it is collected, if so.
     pub target: Target,
-    /// What its collections have come to.
+    /// The counters of its collections.
     pub counters: Counters,
 }
 
 impl Held {
-    /// At how many free frames the heap is collected where a policy says `free`: at more where it uses as many frames as
-    /// its target allows then. The target is set before, if a call since it was set has collected.
+    /// Returns at how many free frames the heap is collected if a policy has `free`: at more if it uses as many
+    /// frames as its target allows then. The target is set before, if a call since it was set has collected.
     #[inline(never)]
     pub(crate) fn free_by_target(&mut self, free: u32) -> u32
         ensures heap { self.new.heap ≡ self.old.heap }
@@ -36,7 +36,7 @@ impl Held {
         self.target.free(free, self.heap.heap().config().frames)
     }
 
-    /// Sets the target behind a call that may have collected, and gives memory back that it doesn't allow.
+    /// Sets the target after a call that may have collected, and releases memory that it doesn't allow.
     #[inline(never)]
     pub(crate) fn follow(&mut self)
         ensures heap { self.new.heap ≡ self.old.heap }

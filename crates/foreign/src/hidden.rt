@@ -6,7 +6,7 @@ ghost use Rattle.std.specs.Box.Ownership.{box_owns};
 use std::alloc::Allocator;
 use std::marker::Model;
 
-/// A box with its fields in sight.
+/// A box with its fields exposed.
 pub struct Hidden<T, A: Allocator> {
     pub(crate) ptr: *mut T,
     pub(crate) alloc: A,
@@ -18,7 +18,7 @@ impl<T, A: Allocator> Model for Hidden<T, A> {
 }
 
 impl<T, A: Allocator> Hidden<T, A> {
-    /// What a box was.
+    /// Takes a box apart.
     pub fn of(b: Box<T, A>) -> Hidden<T, A>
     where
         T: Drop,
@@ -28,7 +28,7 @@ impl<T, A: Allocator> Hidden<T, A> {
         Hidden { ptr, alloc }
     }
 
-    /// The box again.
+    /// Makes the box again.
     pub fn into_box(self) -> Box<T, A>
         ensures { result.value ≡ self.value }
     {

@@ -1,4 +1,4 @@
-//! The heap that a handle leads to, lent.
+//! Borrows of the heap that a handle owns.
 
 ghost use Rattle.std.specs.Prelude.{◌≡◌, true, Some};
 ghost use Rattle.std.specs.Borrow.{sem};
@@ -10,7 +10,7 @@ use crate::held::Held;
 use crate::slot::Slot;
 
 impl Slot {
-    /// The heap that it leads to.
+    /// Borrows the heap that the pointer leads to.
     #[inline(always)]
     pub fn lend(&mut self) -> &mut Held
         requires { is_held self.old.held ≡ true }
@@ -22,7 +22,7 @@ impl Slot {
 }
 
 impl Handle {
-    /// The heap, if there is one.
+    /// Borrows the heap, if there is one.
     #[inline(always)]
     pub(crate) fn lend(&mut self) -> Option<&mut Held>
         ensures lent { lent_in result ≡ self.old.slot.held }

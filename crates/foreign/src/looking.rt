@@ -1,4 +1,4 @@
-//! What a heap is like, and whether it is sound.
+//! Counts and verification of a heap.
 
 ghost use Rattle.std.specs.Prelude.{◌≡◌};
 ghost use Rattle.foreign.specs.Looking.{Counts, IsCountOf, Verifies, VerifiesHeld};
@@ -10,7 +10,7 @@ use std::alloc::Global;
 use verify::Verdict;
 use verifying::verify_held;
 
-/// `pauseless_counts`: what there is of a heap.
+/// `pauseless_counts`: the sizes of a heap, and its births and free frames.
 #[repr(C)]
 #[derive(Clone, Copy)]
 pub struct CountsOfC {
@@ -24,7 +24,7 @@ pub struct CountsOfC {
     pub free: u32,
 }
 
-/// Counts what there is.
+/// Returns the counts of a heap.
 fn count(heap: &ManagedHeap) -> CountsOfC
     ensures { IsCountOf heap.now result }
 {
@@ -37,7 +37,7 @@ fn count(heap: &ManagedHeap) -> CountsOfC
     }
 }
 
-/// Counts what there is of a heap.
+/// Writes the counts of a heap.
 #[unsafe(no_mangle)]
 pub extern "C" fn pauseless_count(heap: &mut Handle, counts: &mut CountsOfC) -> u32
     ensures counts { Counts heap.old.slot.held result counts.old counts.new }
@@ -50,7 +50,7 @@ pub extern "C" fn pauseless_count(heap: &mut Handle, counts: &mut CountsOfC) -> 
     DONE
 }
 
-/// The code of a verdict: that the heap is sound, or that memory was refused.
+/// Returns the code of a verification: that the heap is sound, or that it is out of memory.
 fn verify_code(alloc: Global, heap: &ManagedHeap) -> u32
     ensures { Verifies result }
 {
@@ -61,7 +61,7 @@ fn verify_code(alloc: Global, heap: &ManagedHeap) -> u32
     }
 }
 
-/// Verifies the heap as it stands: that it is sound, by contract, or that memory was refused.
+/// Verifies the heap in its current state: the code is that it is sound, by contract, or out of memory.
 #[unsafe(no_mangle)]
 pub extern "C" fn pauseless_verify(alloc: Global, heap: &mut Handle) -> u32
     ensures same { heap.new.slot.held ≡ heap.old.slot.held }

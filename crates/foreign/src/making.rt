@@ -1,4 +1,4 @@
-//! Heaps that are made and let go.
+//! Making and freeing heaps.
 
 ghost use Rattle.std.specs.Prelude.{◌≡◌, IfOk, None, map};
 ghost use Rattle.foreign.specs.Making.{Makes, MadeOf, config_of, layout_of, usual_sizes};
@@ -13,7 +13,7 @@ use managed::ManagedHeap;
 use model::{MOST_BIRTHS, MOST_HISTORY, MOST_PAGES, USUAL_GLOBALS, USUAL_REGISTERS};
 use std::alloc::{AllocError, Global};
 
-/// `pauseless_sizes`: the sizes and limits of a heap, whose ranges `Config` says.
+/// `pauseless_sizes`: the sizes and limits of a heap, with the ranges of `Config`.
 #[repr(C)]
 #[derive(Clone, Copy)]
 pub struct SizesOfC {
@@ -35,7 +35,7 @@ pub struct SizesOfC {
     pub births: u64,
 }
 
-/// `pauseless_layout`: how many references and data an object has.
+/// `pauseless_layout`: how many references and data words an object has.
 #[repr(C)]
 #[derive(Clone, Copy)]
 pub struct LayoutOfC {
@@ -45,7 +45,7 @@ pub struct LayoutOfC {
     pub nums: u16,
 }
 
-/// The sizes that serve most heaps of so many frames of so many words, as `Config::new` has them.
+/// Writes the sizes that serve most heaps of this many frames of `words`, as `Config::new` has them.
 #[tactic(auto, unfolding(crate::specs::Making::usual_sizes))]
 #[unsafe(no_mangle)]
 pub extern "C" fn pauseless_usual(words: u32, frames: u32, sizes: &mut SizesOfC)
@@ -104,7 +104,7 @@ fn config_of(sizes: &SizesOfC, layouts: Layouts) -> Config
     }
 }
 
-/// A heap in a box; or the code of what is wrong.
+/// Makes a heap in a box. Fails with the code of the reason.
 fn make_of(alloc: Global, config: Config) -> Result<Box<Held>, u32>
     ensures { MadeOf config result }
 {
@@ -126,8 +126,8 @@ fn make_of(alloc: Global, config: Config) -> Result<Box<Held>, u32>
     }
 }
 
-/// Makes a heap of these sizes and layouts, which the handle holds then. The code is that of the first size
-/// that is out of its range; that the handle has a heap already; or that memory was refused.
+/// Makes a heap of these sizes and layouts, which the handle owns then. The code is that of the first size that is
+/// out of its range; that the handle has a heap already; or out of memory.
 #[unsafe(no_mangle)]
 pub extern "C" fn pauseless_new(
     alloc: Global,
@@ -153,7 +153,7 @@ pub extern "C" fn pauseless_new(
     }
 }
 
-/// Lets the heap go, if the handle has one, with all its memory.
+/// Frees the heap with all its memory, if the handle has one.
 #[unsafe(no_mangle)]
 pub extern "C" fn pauseless_free(alloc: Global, heap: &mut Handle)
     ensures { heap.new.slot.held ≡ None }

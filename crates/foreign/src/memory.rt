@@ -7,7 +7,7 @@ use crate::codes::{DONE, NO_HEAP};
 use crate::handle::Handle;
 use collecting::{Holding, Target};
 
-/// Tells how many frames' memory is kept for the next pages, of frames that became free.
+/// Writes how many frames' memory is kept for the next pages, of frames that became free.
 #[unsafe(no_mangle)]
 pub extern "C" fn pauseless_kept(heap: &mut Handle, frames: &mut u64) -> u32
     ensures done { IsDone heap.old.slot.held result }
@@ -21,7 +21,7 @@ pub extern "C" fn pauseless_kept(heap: &mut Handle, frames: &mut u64) -> u32
     DONE
 }
 
-/// Gives memory of free frames back to the allocator, but for that of so many frames. Nothing of the heap changes.
+/// Releases the memory of free frames to the allocator, except that of `frames`. The state of the heap stays.
 #[unsafe(no_mangle)]
 pub extern "C" fn pauseless_trim(heap: &mut Handle, frames: u32) -> u32
     ensures done { IsDone heap.old.slot.held result }
@@ -34,8 +34,8 @@ pub extern "C" fn pauseless_trim(heap: &mut Handle, frames: u32) -> u32
     DONE
 }
 
-/// Lets the memory of the heap follow what lives in it: from now on it is also collected where it uses `least` frames,
-/// and, after a collection, as many as it used then and `growth` of a hundred besides; and memory beyond goes back.
+/// Lets the memory of the heap follow what lives in it: from now on it is also collected if it uses `least` frames,
+/// and, after a collection, `growth` percent more than it used then; and memory beyond is released.
 #[tactic(auto, using(crate::proofs::Calling::kept))]
 #[unsafe(no_mangle)]
 pub extern "C" fn pauseless_set_growth(heap: &mut Handle, least: u32, growth: u32) -> u32

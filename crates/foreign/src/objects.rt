@@ -1,4 +1,4 @@
-//! Buffers and objects.
+//! Allocation buffers and objects.
 
 ghost use Rattle.std.specs.Prelude.{◌≡◌, ◌-◌, if◌then◌else◌};
 ghost use Rattle.model.specs.Saying.{done, lent};
@@ -21,22 +21,22 @@ use cycle::Mutating;
 use model::{Buffer, Refusal};
 use std::alloc::Global;
 
-/// `pauseless_policy`: when a heap is collected for a buffer, as `Policy` says.
+/// `pauseless_policy`: when a heap is collected for a buffer, as by `Policy`.
 #[repr(C)]
 #[derive(Clone, Copy)]
 pub struct PolicyOfC {
     /// The words of a fresh buffer: 1 to the words of a page.
     pub words: u32,
-    /// At most so many frames are free when the heap is collected for it: 0 to the heap's frames.
+    /// At most this many frames are free when the heap is collected for it: 0 to the heap's frames.
     pub free: u32,
-    /// Pages of which at most so many words of a hundred are live are emptied: 0 to 100.
+    /// Pages of which at most this many words of a hundred are live are emptied: 0 to 100.
     pub percent: u32,
-    /// How many objects a part of a collection may scan that is done for a fresh buffer; 0, if such a collection is
+    /// How many objects a part of a collection may scan that is done for a fresh buffer; 0 if such a collection is
     /// complete.
     pub budget: u32,
 }
 
-/// `pauseless_object`: what an object's header tells.
+/// `pauseless_object`: an object, by its header.
 #[repr(C)]
 #[derive(Clone, Copy)]
 pub struct ObjectOfC {
@@ -50,7 +50,7 @@ pub struct ObjectOfC {
     pub nums: u16,
 }
 
-/// The policy of a call, by which the heap is also collected where it uses as many frames as its target allows.
+/// Returns the policy of a call, by which the heap is also collected if it uses as many frames as its target allows.
 #[inline(always)]
 fn policy_of(held: &mut Held, policy: &PolicyOfC) -> Policy
     ensures heap { held.new.heap ≡ held.old.heap }
@@ -72,7 +72,7 @@ fn policy_of(held: &mut Held, policy: &PolicyOfC) -> Policy
     }
 }
 
-/// Takes a buffer of `words` for a thread. Refused as `Mutating::take` is.
+/// Takes a buffer of `words` for a thread. Fails as `Mutating::take` does.
 #[tactic(auto, using(crate::proofs::Calling::stepped))]
 #[unsafe(no_mangle)]
 pub extern "C" fn pauseless_take(heap: &mut Handle, thread: u32, words: u32) -> u32
@@ -87,7 +87,7 @@ pub extern "C" fn pauseless_take(heap: &mut Handle, thread: u32, words: u32) -> 
     }
 }
 
-/// Gives a thread's buffer back. Refused as `Mutating::give_back` is.
+/// Gives back a thread's buffer. Fails as `Mutating::give_back` does.
 #[tactic(auto, using(crate::proofs::Calling::stepped))]
 #[unsafe(no_mangle)]
 pub extern "C" fn pauseless_give_back(heap: &mut Handle, thread: u32) -> u32
@@ -102,7 +102,7 @@ pub extern "C" fn pauseless_give_back(heap: &mut Handle, thread: u32) -> u32
     }
 }
 
-/// Makes an object in the thread's buffer. Refused as `Mutating::new_object` is.
+/// Makes an object in the thread's buffer. Fails as `Mutating::new_object` does.
 #[tactic(auto, using(crate::proofs::Calling::stepped))]
 #[unsafe(no_mangle)]
 pub extern "C" fn pauseless_new_object(
@@ -122,7 +122,7 @@ pub extern "C" fn pauseless_new_object(
     }
 }
 
-/// Makes an object by the policy: beside a collection in parts if it has a budget for these.
+/// Makes an object by the policy: during a collection in parts if it has a budget for these.
 #[inline(always)]
 pub(crate) fn make_by(
     alloc: Global,
@@ -192,8 +192,8 @@ pub(crate) fn make_with_by(
     }
 }
 
-/// Makes an object; where the thread's buffer has no room for it, `pauseless_refill` gets it one before. Refused as
-/// `Holding::make` is.
+/// Makes an object; if the thread's buffer has no space for it, `pauseless_refill` gets it one before. Fails as
+/// `Holding::make` does.
 #[tactic(auto, using(crate::proofs::Calling::on_held))]
 #[unsafe(no_mangle)]
 pub extern "C" fn pauseless_make(
@@ -212,8 +212,8 @@ pub extern "C" fn pauseless_make(
     make_tested(alloc, held, policy, thread, target, layout)
 }
 
-/// Makes an object, for which `pauseless_refill` gets a buffer if the thread's has no room, and fills it: its first
-/// references are those of registers, and its first data words are given. Fails as `Holding::make_with` does.
+/// Makes an object, for which `pauseless_refill` gets a buffer if the thread's has no space, and fills it: stores
+/// registers in its first references, and writes its first data words. Fails as `Holding::make_with` does.
 #[tactic(auto, using(crate::proofs::Calling::on_held))]
 #[unsafe(no_mangle)]
 pub extern "C" fn pauseless_make_with(
@@ -235,7 +235,7 @@ pub extern "C" fn pauseless_make_with(
     make_with_tested(alloc, held, policy, thread, target, layout, sources, nums)
 }
 
-/// Gets a thread a fresh buffer, for which the heap is collected by the policy. Refused as `Holding::refill` is.
+/// Gets a thread a fresh buffer, for which the heap is collected by the policy. Fails as `Holding::refill` does.
 #[tactic(auto, using(crate::proofs::Calling::on_held))]
 #[unsafe(no_mangle)]
 pub extern "C" fn pauseless_refill(
@@ -252,7 +252,7 @@ pub extern "C" fn pauseless_refill(
     refill_tested(alloc, held, policy, thread)
 }
 
-/// What a look at an object found, for C.
+/// Writes an object that was found for C.
 #[inline(always)]
 pub(crate) fn tell_object(seen: Object, object: &mut ObjectOfC)
     ensures { IsSeen object.new seen }
@@ -263,7 +263,7 @@ pub(crate) fn tell_object(seen: Object, object: &mut ObjectOfC)
     object.nums = seen.nums;
 }
 
-/// The code of a look that is refused: asked once more, it is refused again.
+/// Returns the code of a lookup that failed, by repeating it, which fails again.
 #[tactic(auto, using(crate::proofs::Calling::given))]
 #[cold]
 #[inline(never)]
@@ -283,7 +283,7 @@ fn look_refused(heap: &mut Handle, thread: u32, register: u32, object: &mut Obje
     }
 }
 
-/// Tells what object a register names. Refused as `Holding::object` is.
+/// Writes which object a register names. Fails as `Holding::object` does.
 #[tactic(auto, using(crate::proofs::Calling::given))]
 #[unsafe(no_mangle)]
 pub extern "C" fn pauseless_look(

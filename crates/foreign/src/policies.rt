@@ -1,4 +1,5 @@
-//! Calls whose policy or percentage is tested first: what is out of its range is refused, and nothing is done.
+//! Calls whose policy or percentage is tested first: if one is out of its range, the call fails, and nothing is
+//! done.
 
 ghost use Rattle.std.specs.Prelude.{◌≡◌};
 ghost use Rattle.foreign.specs.Policies.{MakesBy, MakesWithBy, RefillsBy, fault_of, percent_fault};
@@ -10,7 +11,7 @@ use crate::which::{fill_code, make_code};
 use collecting::{Policy, PolicyFault};
 use std::alloc::Global;
 
-/// The first field of a policy that is out of its range.
+/// Returns the first field of a policy that is out of its range.
 #[inline(always)]
 fn fault_of(held: &Held, policy: &PolicyOfC) -> Option<PolicyFault>
     ensures { result ≡ fault_of held.now policy.now }
@@ -23,7 +24,7 @@ fn fault_of(held: &Held, policy: &PolicyOfC) -> Option<PolicyFault>
     given.fault(held.heap.heap().config())
 }
 
-/// That a percentage is out of its range, if it is.
+/// Returns that a percentage is out of its range, if it is.
 #[inline(always)]
 pub(crate) fn percent_fault(percent: u32) -> Option<PolicyFault>
     ensures { result ≡ percent_fault percent }
@@ -35,7 +36,7 @@ pub(crate) fn percent_fault(percent: u32) -> Option<PolicyFault>
     }
 }
 
-/// Makes an object by a policy, if that is in its range.
+/// Makes an object by a policy, if the policy is in its range.
 #[inline(always)]
 pub(crate) fn make_tested(
     alloc: Global,
@@ -56,7 +57,7 @@ pub(crate) fn make_tested(
     }
 }
 
-/// Makes an object by a policy, if that is in its range, and fills it.
+/// Makes an object by a policy, if the policy is in its range, and fills it.
 #[inline(always)]
 pub(crate) fn make_with_tested(
     alloc: Global,
@@ -79,7 +80,7 @@ pub(crate) fn make_with_tested(
     }
 }
 
-/// Gets a thread a fresh buffer by a policy, if that is in its range.
+/// Gets a thread a fresh buffer by a policy, if the policy is in its range.
 pub(crate) fn refill_tested(alloc: Global, held: &mut Held, policy: &PolicyOfC, thread: u32) -> u32
     ensures { RefillsBy policy.now thread held.old result held.new }
 {

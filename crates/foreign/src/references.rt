@@ -1,4 +1,4 @@
-//! References: loads, stores, and what registers name.
+//! References: loads, stores, and operations on registers.
 
 ghost use Rattle.std.specs.Prelude.{◌≡◌};
 ghost use Rattle.model.specs.Saying.{done};
@@ -18,7 +18,7 @@ use cycle::Mutating;
 use managed::{FieldLoad, LoadsFault, ManagedHeap};
 use std::alloc::Global;
 
-/// The code of several loads of an object; and how many are done, which is written for C.
+/// Returns the code of several loads of an object; and writes how many are done for C.
 #[inline(always)]
 fn give_loads(
     heap: &ManagedHeap,
@@ -42,7 +42,7 @@ fn give_loads(
     }
 }
 
-/// A load that isn't done in one go, by its steps.
+/// Does a load by its steps, if it isn't done at once.
 #[tactic(auto, using(crate::proofs::Calling::loaded))]
 #[cold]
 #[inline(never)]
@@ -58,7 +58,7 @@ fn load_by_steps(heap: &mut Handle, thread: u32, target: u32, object: u32, field
     }
 }
 
-/// Loads a reference field of an object into a register, whole. Refused as `Holding::read` is.
+/// Loads a reference field of an object into a register, completely. Fails as `Holding::read` does.
 #[unsafe(no_mangle)]
 pub extern "C" fn pauseless_load(
     heap: &mut Handle,
@@ -78,8 +78,8 @@ pub extern "C" fn pauseless_load(
     load_by_steps(heap, thread, target, object, field)
 }
 
-/// Loads several reference fields of an object into registers, each completely, in their order; and writes for C how many
-/// are done. Stops at the first load that fails, and fails as `Holding::read` does.
+/// Loads several reference fields of an object into registers, each completely, in their order; and writes how many
+/// are done for C. Stops at the first load that fails, and fails as `Holding::read` does.
 #[tactic(auto, using(crate::proofs::Calling::loaded_each))]
 #[unsafe(no_mangle)]
 pub extern "C" fn pauseless_loads(
@@ -99,7 +99,7 @@ pub extern "C" fn pauseless_loads(
     give_loads(&held.heap, object, fields, answer, done)
 }
 
-/// A store that isn't done in one go, by its tests.
+/// Does a store by its tests, if it isn't done at once.
 #[tactic(auto, using(crate::proofs::Calling::stepped))]
 #[cold]
 #[inline(never)]
@@ -116,7 +116,7 @@ fn store_by_tests(heap: &mut Handle, thread: u32, object: u32, field: u32, sourc
     }
 }
 
-/// Writes a register's reference to a field of an object. Refused as `Mutating::store` is.
+/// Stores a register's reference in a field of an object. Fails as `Mutating::store` does.
 #[unsafe(no_mangle)]
 pub extern "C" fn pauseless_store(
     heap: &mut Handle,
@@ -137,7 +137,7 @@ pub extern "C" fn pauseless_store(
     store_by_tests(heap, thread, object, field, source)
 }
 
-/// Loads a global into a register, whole. Refused as `Holding::read_global` is.
+/// Loads a global into a register, completely. Fails as `Holding::read_global` does.
 #[tactic(auto, using(crate::proofs::Calling::loaded))]
 #[unsafe(no_mangle)]
 pub extern "C" fn pauseless_load_global(
@@ -157,7 +157,7 @@ pub extern "C" fn pauseless_load_global(
     }
 }
 
-/// Writes a register's reference to a global. Refused as `Mutating::store_global` is.
+/// Stores a register's reference in a global. Fails as `Mutating::store_global` does.
 #[tactic(auto, using(crate::proofs::Calling::stepped))]
 #[unsafe(no_mangle)]
 pub extern "C" fn pauseless_store_global(
@@ -178,7 +178,7 @@ pub extern "C" fn pauseless_store_global(
     }
 }
 
-/// The code of a copy of a register that is refused: asked once more, it is refused again.
+/// Returns the code of a copy of a register that failed, by repeating it, which fails again.
 #[tactic(auto, using(crate::proofs::Calling::stepped))]
 #[cold]
 #[inline(never)]
@@ -194,7 +194,7 @@ fn copy_refused(heap: &mut Handle, thread: u32, target: u32, source: u32) -> u32
     }
 }
 
-/// Writes a register's reference to another one. Refused as `Mutating::copy_register` is.
+/// Copies a register's reference to another register. Fails as `Mutating::copy_register` does.
 #[tactic(auto, using(crate::proofs::Calling::stepped))]
 #[unsafe(no_mangle)]
 pub extern "C" fn pauseless_copy(heap: &mut Handle, thread: u32, target: u32, source: u32) -> u32
@@ -209,7 +209,7 @@ pub extern "C" fn pauseless_copy(heap: &mut Handle, thread: u32, target: u32, so
     }
 }
 
-/// The code of clearing a register that is refused: asked once more, it is refused again.
+/// Returns the code of clearing a register that failed, by repeating it, which fails again.
 #[tactic(auto, using(crate::proofs::Calling::stepped))]
 #[cold]
 #[inline(never)]
@@ -225,7 +225,7 @@ fn clear_refused(heap: &mut Handle, thread: u32, target: u32) -> u32
     }
 }
 
-/// Makes a register null. Refused as `Mutating::clear_register` is.
+/// Makes a register null. Fails as `Mutating::clear_register` does.
 #[tactic(auto, using(crate::proofs::Calling::stepped))]
 #[unsafe(no_mangle)]
 pub extern "C" fn pauseless_clear(heap: &mut Handle, thread: u32, target: u32) -> u32
@@ -240,7 +240,7 @@ pub extern "C" fn pauseless_clear(heap: &mut Handle, thread: u32, target: u32) -
     }
 }
 
-/// The code of a comparison that is refused: asked once more, it is refused again.
+/// Returns the code of a comparison that failed, by repeating it, which fails again.
 #[tactic(auto, using(crate::proofs::Calling::looked))]
 #[cold]
 #[inline(never)]
@@ -260,7 +260,7 @@ fn same_refused(heap: &mut Handle, thread: u32, left: u32, right: u32, is_so: &m
     }
 }
 
-/// Tells whether two registers name the same object, or both none. Refused as `Mutating::same` is.
+/// Writes whether two registers name the same object, or both none. Fails as `Mutating::same` does.
 #[tactic(auto, using(crate::proofs::Calling::looked))]
 #[unsafe(no_mangle)]
 pub extern "C" fn pauseless_same(
@@ -285,7 +285,7 @@ pub extern "C" fn pauseless_same(
     }
 }
 
-/// The code of a test for null that is refused: asked once more, it is refused again.
+/// Returns the code of a test for null that failed, by repeating it, which fails again.
 #[tactic(auto, using(crate::proofs::Calling::looked))]
 #[cold]
 #[inline(never)]
@@ -305,7 +305,7 @@ fn is_null_refused(heap: &mut Handle, thread: u32, register: u32, is_so: &mut bo
     }
 }
 
-/// Tells whether a register is null. Refused as `Mutating::is_null` is.
+/// Writes whether a register is null. Fails as `Mutating::is_null` does.
 #[tactic(auto, using(crate::proofs::Calling::looked))]
 #[unsafe(no_mangle)]
 pub extern "C" fn pauseless_is_null(

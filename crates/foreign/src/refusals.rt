@@ -1,5 +1,5 @@
-//! The codes of steps that are refused. Each is a function of its own, called last: an export has no room for a step
-//! then, which it would set to zero before all else.
+//! The codes of steps that are rejected. Each is a function of its own, called last: so an export needs no stack
+//! space for a step, which it would set to zero before all else.
 
 ghost use Rattle.std.specs.Prelude.{◌≡◌};
 ghost use Rattle.model.specs.declared.steps.Step.TheVariants as steps;
@@ -9,7 +9,7 @@ use crate::which::step_code;
 use managed::ManagedHeap;
 use model::{Refusal, Step};
 
-/// The code of a refusal of `Take`.
+/// Returns the code of an error of `Take`.
 #[cold]
 #[inline(never)]
 pub(crate) fn take_code(heap: &ManagedHeap, words: u32, refusal: Refusal) -> u32
@@ -18,7 +18,7 @@ pub(crate) fn take_code(heap: &ManagedHeap, words: u32, refusal: Refusal) -> u32
     step_code(heap, Step::Take(words), refusal)
 }
 
-/// The code of a refusal of `GiveBack`.
+/// Returns the code of an error of `GiveBack`.
 #[cold]
 #[inline(never)]
 pub(crate) fn give_back_code(heap: &ManagedHeap, refusal: Refusal) -> u32
@@ -27,7 +27,7 @@ pub(crate) fn give_back_code(heap: &ManagedHeap, refusal: Refusal) -> u32
     step_code(heap, Step::GiveBack, refusal)
 }
 
-/// The code of a refusal of `New`.
+/// Returns the code of an error of `New`.
 #[cold]
 #[inline(never)]
 pub(crate) fn new_object_code(heap: &ManagedHeap, target: u32, layout: u32, refusal: Refusal) -> u32
@@ -36,7 +36,7 @@ pub(crate) fn new_object_code(heap: &ManagedHeap, target: u32, layout: u32, refu
     step_code(heap, Step::New { target, layout }, refusal)
 }
 
-/// The code of a refusal of `Load`.
+/// Returns the code of an error of `Load`.
 #[cold]
 #[inline(never)]
 pub(crate) fn load_code(
@@ -59,7 +59,7 @@ pub(crate) fn load_code(
     )
 }
 
-/// The code of a refusal of `LoadGlobal`.
+/// Returns the code of an error of `LoadGlobal`.
 #[cold]
 #[inline(never)]
 pub(crate) fn load_global_code(
@@ -73,7 +73,7 @@ pub(crate) fn load_global_code(
     step_code(heap, Step::LoadGlobal { target, global }, refusal)
 }
 
-/// The code of a refusal of `Store`.
+/// Returns the code of an error of `Store`.
 #[cold]
 #[inline(never)]
 pub(crate) fn store_code(
@@ -96,7 +96,7 @@ pub(crate) fn store_code(
     )
 }
 
-/// The code of a refusal of `StoreGlobal`.
+/// Returns the code of an error of `StoreGlobal`.
 #[cold]
 #[inline(never)]
 pub(crate) fn store_global_code(
@@ -110,7 +110,7 @@ pub(crate) fn store_global_code(
     step_code(heap, Step::StoreGlobal { global, source }, refusal)
 }
 
-/// The code of a refusal of `CopyReg`.
+/// Returns the code of an error of `CopyReg`.
 #[cold]
 #[inline(never)]
 pub(crate) fn copy_code(heap: &ManagedHeap, target: u32, source: u32, refusal: Refusal) -> u32
@@ -119,7 +119,7 @@ pub(crate) fn copy_code(heap: &ManagedHeap, target: u32, source: u32, refusal: R
     step_code(heap, Step::CopyReg { target, source }, refusal)
 }
 
-/// The code of a refusal of `ClearReg`.
+/// Returns the code of an error of `ClearReg`.
 #[cold]
 #[inline(never)]
 pub(crate) fn clear_code(heap: &ManagedHeap, target: u32, refusal: Refusal) -> u32
@@ -128,7 +128,7 @@ pub(crate) fn clear_code(heap: &ManagedHeap, target: u32, refusal: Refusal) -> u
     step_code(heap, Step::ClearReg(target), refusal)
 }
 
-/// The code of a refusal of `Same`.
+/// Returns the code of an error of `Same`.
 #[cold]
 #[inline(never)]
 pub(crate) fn same_code(heap: &ManagedHeap, left: u32, right: u32, refusal: Refusal) -> u32
@@ -137,7 +137,7 @@ pub(crate) fn same_code(heap: &ManagedHeap, left: u32, right: u32, refusal: Refu
     step_code(heap, Step::Same { left, right }, refusal)
 }
 
-/// The code of a refusal of `IsNull`.
+/// Returns the code of an error of `IsNull`.
 #[cold]
 #[inline(never)]
 pub(crate) fn is_null_code(heap: &ManagedHeap, register: u32, refusal: Refusal) -> u32
@@ -146,7 +146,7 @@ pub(crate) fn is_null_code(heap: &ManagedHeap, register: u32, refusal: Refusal) 
     step_code(heap, Step::IsNull(register), refusal)
 }
 
-/// The code of a refusal of `Datum`.
+/// Returns the code of an error of `Datum`.
 #[cold]
 #[inline(never)]
 pub(crate) fn get_code(heap: &ManagedHeap, object: u32, index: u32, refusal: Refusal) -> u32
@@ -155,7 +155,7 @@ pub(crate) fn get_code(heap: &ManagedHeap, object: u32, index: u32, refusal: Ref
     step_code(heap, Step::Datum { object, index }, refusal)
 }
 
-/// The code of a refusal of `SetDatum`.
+/// Returns the code of an error of `SetDatum`.
 #[cold]
 #[inline(never)]
 pub(crate) fn set_code(

@@ -9,14 +9,14 @@ use crate::hidden::Hidden;
 use std::alloc::Global;
 use std::marker::Model;
 
-/// What C's pointer leads to: nothing that C can look at.
+/// The target of C's pointer, which C can't read.
 #[repr(C)]
 #[derive(Drop)]
 pub struct Opaque {
     private: u8,
 }
 
-/// A pointer that leads to a heap, which it owns then, or nowhere.
+/// A pointer that leads to a heap, which it then owns, or nowhere.
 #[repr(C)]
 #[derive(Drop)]
 pub struct Slot {
@@ -29,7 +29,7 @@ impl Model for Slot {
 }
 
 impl Slot {
-    /// One that leads nowhere.
+    /// Makes a slot that leads nowhere.
     pub fn empty() -> Slot
         ensures { result.held ≡ None }
     {
@@ -38,7 +38,7 @@ impl Slot {
         }
     }
 
-    /// One that leads to what was in a box.
+    /// Makes a slot that leads to the contents of a box.
     pub fn of(hidden: Hidden<Held, Global>) -> Slot
         ensures { result.held ≡ Some hidden.value }
     {
@@ -48,7 +48,7 @@ impl Slot {
         }
     }
 
-    /// What was in a box, of one that leads there.
+    /// Returns the parts of the box of a slot that leads there.
     pub fn into_hidden(self, alloc: Global) -> Hidden<Held, Global>
         requires { is_held self.held ≡ true }
         ensures { self.held ≡ Some result.value }

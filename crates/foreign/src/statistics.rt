@@ -1,4 +1,4 @@
-//! What a heap has come to, in numbers.
+//! Statistics of a heap.
 
 ghost use Rattle.std.specs.Prelude.{◌≡◌, slice_get};
 ghost use Rattle.foreign.specs.Statistics.{AreOf, Told, add_to, sum_of, summed};
@@ -9,19 +9,19 @@ use crate::held::Held;
 use heap::Heap;
 use model::Tally;
 
-/// `pauseless_statistics`: what a heap and its collections have come to.
+/// `pauseless_statistics`: the counters of a heap and its collections.
 #[repr(C)]
 #[derive(Clone, Copy)]
 pub struct StatisticsOfC {
     /// How many objects were born.
     pub births: u64,
-    /// How many objects the last complete collection has found to live.
+    /// How many live objects the last complete collection has found.
     pub live: u64,
     /// Complete collections that have begun because a call asked for them.
     pub by_calls: u64,
     /// Complete collections that have begun for a fresh buffer, as few frames were free.
     pub by_policy: u64,
-    /// Complete collections that have begun for a fresh buffer, as there was no room for one.
+    /// Complete collections that have begun for a fresh buffer, as there was no space for one.
     pub by_room: u64,
     /// Complete collections that have ended.
     pub ended: u64,
@@ -49,7 +49,7 @@ pub struct StatisticsOfC {
     pub most_used: u32,
 }
 
-/// The sum of two threads' counts.
+/// Returns the sum of two threads' counters.
 fn sum_of(one: Tally, two: Tally) -> Tally
     ensures { result ≡ sum_of one two }
 {
@@ -62,7 +62,7 @@ fn sum_of(one: Tally, two: Tally) -> Tally
     }
 }
 
-/// Adds the counts of a thread, if there is one of this number.
+/// Adds the counters of a thread, if there is one of this number.
 fn add_to(sum: Tally, heap: &Heap, thread: usize) -> Tally
     ensures { result ≡ add_to sum (slice_get heap.now.threads thread) }
 {
@@ -72,7 +72,7 @@ fn add_to(sum: Tally, heap: &Heap, thread: usize) -> Tally
     }
 }
 
-/// The counts of all threads' read barriers, summed.
+/// Returns the sum of the barrier counters of all threads.
 fn summed(heap: &Heap) -> Tally
     ensures { result ≡ summed heap.now.threads }
 {
@@ -83,7 +83,7 @@ fn summed(heap: &Heap) -> Tally
     sum
 }
 
-/// The statistics of what a handle holds.
+/// Returns the statistics of a handle's contents.
 fn statistics_of(held: &Held) -> StatisticsOfC
     ensures { AreOf held.now result }
 {
@@ -113,7 +113,7 @@ fn statistics_of(held: &Held) -> StatisticsOfC
     }
 }
 
-/// Tells what a heap and its collections have come to.
+/// Writes the statistics of a heap and its collections.
 #[unsafe(no_mangle)]
 pub extern "C" fn pauseless_get_statistics(heap: &mut Handle, statistics: &mut StatisticsOfC) -> u32
     ensures told { Told heap.old.slot.held result statistics.old statistics.new }

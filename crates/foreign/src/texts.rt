@@ -10,7 +10,7 @@ use heap::Heap;
 use reporting::{ReportFault, report_heap};
 use std::alloc::Global;
 
-/// The report of a heap.
+/// Returns the report of a heap.
 fn text_of(alloc: Global, heap: &Heap) -> Result<Vec<u8>, ReportFault>
     ensures { IfOk result (λ text. text.items ≡ heap_text heap.now) }
 {
@@ -19,7 +19,7 @@ fn text_of(alloc: Global, heap: &Heap) -> Result<Vec<u8>, ReportFault>
     Ok(text)
 }
 
-/// Writes as much of a text as there is room for.
+/// Writes as much of a text as fits.
 fn give_text(text: &[u8], room: &mut [u8])
     ensures { room.new ≡ written text.now room.old }
 {
@@ -27,8 +27,8 @@ fn give_text(text: &[u8], room: &mut [u8])
     room[..n].copy_from_slice(&text[..n]);
 }
 
-/// Writes the report of a heap, in lines of ASCII text, to `text` as far as there is room, and its length in
-/// bytes to `length`. Fails if the handle has no heap, or if memory is refused; then nothing is written.
+/// Writes the report of a heap, in lines of ASCII text, to `text` as far as it fits, and its length in bytes to
+/// `length`. Fails if the handle has no heap, or out of memory; then nothing is written.
 #[unsafe(no_mangle)]
 pub extern "C" fn pauseless_report(
     alloc: Global,

@@ -1,4 +1,4 @@
-//! The whole heap, read as it stands: objects by their places, which hold for as long as nothing changes the heap.
+//! The complete heap, read in its current state: objects by their places, which are valid until the heap changes.
 
 ghost use Rattle.std.specs.Prelude.{◌≡◌};
 ghost use Rattle.collecting.specs.declared.numbers.Number.TheVariants as numbers;
@@ -16,7 +16,7 @@ use model::Refusal;
 use refword::Addr;
 use viewing::places::{data_word_at, global_at, object_at, reference_at, register_at};
 
-/// The place of what was found, for C: 0 where null was found.
+/// Writes the place of an object that was found for C: 0 for null.
 fn tell_place(found: Option<Addr>, place: &mut u64)
     ensures { IsPlace place.new found }
 {
@@ -26,7 +26,8 @@ fn tell_place(found: Option<Addr>, place: &mut u64)
     };
 }
 
-/// The address that a place of C is. Refused as `Null` where it is 0, and as `BadIndex` where no object can be there.
+/// Returns the address of a place of C. Fails with `Null` if the place is 0, and with `BadIndex` if no object can be
+/// there.
 fn address_of(place: u64) -> Result<Addr, Refusal>
     ensures { ReadsPlace place result }
 {
@@ -39,7 +40,7 @@ fn address_of(place: u64) -> Result<Addr, Refusal>
     }
 }
 
-/// Tells where the object is that a register of a thread names. Refused as `viewing::places::register_at` is.
+/// Writes the place of the object that a register of a thread names. Fails as `viewing::places::register_at` does.
 #[tactic(auto, using(crate::proofs::Calling::given))]
 #[unsafe(no_mangle)]
 pub extern "C" fn pauseless_view_register(
@@ -63,7 +64,7 @@ pub extern "C" fn pauseless_view_register(
     }
 }
 
-/// Tells where the object is that a global names. Refused as `viewing::places::global_at` is.
+/// Writes the place of the object that a global names. Fails as `viewing::places::global_at` does.
 #[tactic(auto, using(crate::proofs::Calling::given))]
 #[unsafe(no_mangle)]
 pub extern "C" fn pauseless_view_global(heap: &mut Handle, global: u32, place: &mut u64) -> u32
@@ -82,7 +83,7 @@ pub extern "C" fn pauseless_view_global(heap: &mut Handle, global: u32, place: &
     }
 }
 
-/// A reference of the object at a place.
+/// Returns a reference of the object at a place.
 #[tactic(auto, using(crate::proofs::Places::place_read, crate::proofs::Places::place_refused))]
 fn load_at(heap: &ManagedHeap, place: u64, field: u32) -> Result<Option<Addr>, Refusal>
     ensures { ViewsField place field heap.now result heap.now }
@@ -93,8 +94,8 @@ fn load_at(heap: &ManagedHeap, place: u64, field: u32) -> Result<Option<Addr>, R
     }
 }
 
-/// Tells where the object is that a reference of an object names, by that object's place. Refused as `Null` where the
-/// place is 0, else as `viewing::places::reference_at` is.
+/// Writes the place of the object that a reference of an object names, by that object's place. Fails with `Null` if
+/// the place is 0, else as `viewing::places::reference_at` does.
 #[tactic(auto, using(crate::proofs::Calling::given))]
 #[unsafe(no_mangle)]
 pub extern "C" fn pauseless_view_load(
@@ -118,7 +119,7 @@ pub extern "C" fn pauseless_view_load(
     }
 }
 
-/// A data word of the object at a place.
+/// Returns a data word of the object at a place.
 #[tactic(auto, using(crate::proofs::Places::place_read, crate::proofs::Places::place_refused))]
 fn get_at(heap: &ManagedHeap, place: u64, index: u32) -> Result<u64, Refusal>
     ensures { ViewsDatum place index heap.now result heap.now }
@@ -129,8 +130,8 @@ fn get_at(heap: &ManagedHeap, place: u64, index: u32) -> Result<u64, Refusal>
     }
 }
 
-/// Reads a data word of an object by its place. Refused as `Null` where the place is 0, else as
-/// `viewing::places::data_word_at` is.
+/// Reads a data word of an object by its place. Fails with `Null` if the place is 0, else as
+/// `viewing::places::data_word_at` does.
 #[tactic(auto, using(crate::proofs::Calling::given))]
 #[unsafe(no_mangle)]
 pub extern "C" fn pauseless_view_get(
@@ -154,7 +155,7 @@ pub extern "C" fn pauseless_view_get(
     }
 }
 
-/// The object at a place.
+/// Returns the object at a place.
 #[tactic(auto, using(crate::proofs::Places::place_read, crate::proofs::Places::place_refused))]
 fn look_at(heap: &ManagedHeap, place: u64) -> Result<Object, Refusal>
     ensures { ViewsObject place heap.now result heap.now }
@@ -165,7 +166,8 @@ fn look_at(heap: &ManagedHeap, place: u64) -> Result<Object, Refusal>
     }
 }
 
-/// Tells what object is at a place. Refused as `Null` where the place is 0, else as `viewing::places::object_at` is.
+/// Writes which object is at a place. Fails with `Null` if the place is 0, else as `viewing::places::object_at`
+/// does.
 #[tactic(auto, using(crate::proofs::Calling::given))]
 #[unsafe(no_mangle)]
 pub extern "C" fn pauseless_view_look(heap: &mut Handle, place: u64, object: &mut ObjectOfC) -> u32

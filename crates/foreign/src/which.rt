@@ -1,11 +1,11 @@
-//! The codes of calls that aren't done, by which number names nothing. All of it is off the way of a call that is done.
+//! The codes of calls that failed, by which number names nothing. None of it is on the path of a call that is done.
 
 ghost use Rattle.std.specs.Prelude.{◌≡◌, ◌||◌, slice_get};
 ghost use Rattle.std.specs.List.{list_any};
 ghost use Rattle.model.specs.Outcome.{no_register};
 ghost use Rattle.foreign.specs.Codes.{class_of, refusal_code};
-ghost use Rattle.foreign.specs.Which.{fill_code, fill_number, is_larger, is_place, kind_code, lacking, load_code};
-ghost use Rattle.foreign.specs.Which.{look_code};
+ghost use Rattle.foreign.specs.Which.{copy_data_code, fill_code, fill_number, is_larger, is_place, kind_code, lacking, load_code};
+ghost use Rattle.foreign.specs.Which.{copy_data_number, look_code};
 ghost use Rattle.foreign.specs.Which.{make_code, no_thread, place_code, register_number, step_code, view_code};
 
 use crate::codes::{BAD_INDEX, OBJECT_TOO_LARGE, number_code, refusal_code};
@@ -14,7 +14,7 @@ use heap::Heap;
 use managed::{FieldLoad, ManagedHeap};
 use model::{Refusal, Step};
 
-/// The code of a refusal of a thread's step, after it: which number of the step names nothing.
+/// Returns the code of an error of a thread's step, after it: which number of the step names nothing.
 #[cold]
 #[inline(never)]
 #[tactic(auto, unfolding(crate::specs::Codes::refusal_code))]
@@ -31,7 +31,7 @@ pub(crate) fn step_code(heap: &ManagedHeap, step: Step, refusal: Refusal) -> u32
     }
 }
 
-/// Whether an object of a layout is larger than so many words.
+/// Returns whether an object of a layout is larger than `words`.
 fn is_larger(heap: &Heap, words: u32, layout: u32) -> bool
     ensures { result ≡ is_larger words (slice_get heap.now.config.layouts layout) }
 {
@@ -41,7 +41,7 @@ fn is_larger(heap: &Heap, words: u32, layout: u32) -> bool
     }
 }
 
-/// The code of a refusal to make an object in buffers of so many words.
+/// Returns the code of an error of making an object in buffers of `words`.
 #[cold]
 #[inline(never)]
 pub(crate) fn make_code(
@@ -65,7 +65,7 @@ pub(crate) fn make_code(
     }
 }
 
-/// Whether a heap has no such register.
+/// Returns whether a heap has no such register.
 #[tactic(auto, unfolding(model::specs::Outcome::no_register))]
 fn no_register(heap: &Heap, register: u32) -> bool
     ensures { result ≡ no_register heap.now register }
@@ -73,7 +73,7 @@ fn no_register(heap: &Heap, register: u32) -> bool
     register >= heap.config().registers
 }
 
-/// What a layout lacks for so many references, if it is there: these, or else data words.
+/// Returns what a layout lacks for `refs` references, if it is there: these, or else data words.
 fn lacking(heap: &Heap, layout: u32, refs: usize) -> Number
     ensures { result ≡ lacking (slice_get heap.now.config.layouts layout) refs }
 {
@@ -89,7 +89,7 @@ fn lacking(heap: &Heap, layout: u32, refs: usize) -> Number
     }
 }
 
-/// Whether one of these registers isn't there.
+/// Returns whether one of these registers isn't there.
 fn lacks_register(heap: &Heap, registers: &[u32]) -> bool
     ensures { result ≡ list_any (no_register heap.now) registers.now }
 {
@@ -98,7 +98,7 @@ fn lacks_register(heap: &Heap, registers: &[u32]) -> bool
         .any(|register| no_register(heap, *register))
 }
 
-/// Which number names nothing where an object is to be made and filled.
+/// Returns which number names nothing if an object is to be made and filled.
 fn fill_number(heap: &Heap, target: u32, layout: u32, sources: &[u32]) -> Number
     ensures { result ≡ fill_number heap.now target layout sources.now }
 {
@@ -109,7 +109,7 @@ fn fill_number(heap: &Heap, target: u32, layout: u32, sources: &[u32]) -> Number
     }
 }
 
-/// The code of a refusal to make an object in buffers of so many words, and to fill it.
+/// Returns the code of an error of making an object in buffers of `words`, and filling it.
 #[cold]
 #[inline(never)]
 pub(crate) fn fill_code(
@@ -128,7 +128,30 @@ pub(crate) fn fill_code(
     }
 }
 
-/// The code of a refusal of one of several loads of an object.
+/// Returns which number names nothing if data words of one object are to be copied to another.
+fn copy_data_number(heap: &Heap, target: u32, source: u32) -> Number
+    ensures { result ≡ copy_data_number heap.now target source }
+{
+    if no_register(heap, target) || no_register(heap, source) {
+        Number::Register
+    } else {
+        Number::Datum
+    }
+}
+
+/// Returns the code of an error of copying data words of one object to another.
+#[cold]
+#[inline(never)]
+pub(crate) fn copy_data_code(heap: &ManagedHeap, target: u32, source: u32, refusal: Refusal) -> u32
+    ensures { result ≡ copy_data_code target source heap.now refusal }
+{
+    match refusal {
+        Refusal::BadIndex => number_code(copy_data_number(heap.heap(), target, source)),
+        other => refusal_code(other),
+    }
+}
+
+/// Returns the code of an error of one of several loads of an object.
 #[cold]
 #[inline(never)]
 pub(crate) fn loads_code(
@@ -150,14 +173,14 @@ pub(crate) fn loads_code(
     step_code(heap, step, refusal)
 }
 
-/// Whether a heap has no such thread.
+/// Returns whether a heap has no such thread.
 fn no_thread(heap: &Heap, thread: u32) -> bool
     ensures { result ≡ no_thread heap.now thread }
 {
     thread as usize >= heap.threads().len()
 }
 
-/// Which number names nothing where a register of a thread is looked at that isn't there.
+/// Returns which number names nothing if a register of a thread is looked up that isn't there.
 fn register_number(heap: &Heap, thread: u32) -> Number
     ensures { result ≡ register_number heap.now thread }
 {
@@ -168,7 +191,7 @@ fn register_number(heap: &Heap, thread: u32) -> Number
     }
 }
 
-/// The code of a refusal to look at what a register of a thread names.
+/// Returns the code of an error of looking up the object that a register of a thread names.
 #[cold]
 #[inline(never)]
 pub(crate) fn look_code(heap: &ManagedHeap, thread: u32, register: u32, refusal: Refusal) -> u32
@@ -187,7 +210,7 @@ pub(crate) fn look_code(heap: &ManagedHeap, thread: u32, register: u32, refusal:
     }
 }
 
-/// The code of a refusal to find the place of what a register of a thread names.
+/// Returns the code of an error of finding the place of the object that a register of a thread names.
 #[cold]
 #[inline(never)]
 pub(crate) fn view_code(heap: &ManagedHeap, thread: u32, refusal: Refusal) -> u32
@@ -199,7 +222,7 @@ pub(crate) fn view_code(heap: &ManagedHeap, thread: u32, refusal: Refusal) -> u3
     }
 }
 
-/// The code of a refusal where a number of one kind is sought.
+/// Returns the code of an error of a lookup by a number of one kind.
 #[cold]
 #[inline(never)]
 pub(crate) fn kind_code(heap: &ManagedHeap, number: Number, refusal: Refusal) -> u32
@@ -212,7 +235,7 @@ pub(crate) fn kind_code(heap: &ManagedHeap, number: Number, refusal: Refusal) ->
     }
 }
 
-/// The same of the object at a place, if an object can be there.
+/// As `kind_code` for the object at a place, if an object can be there.
 #[cold]
 #[inline(never)]
 pub(crate) fn place_code(heap: &ManagedHeap, number: Number, place: u64, refusal: Refusal) -> u32
@@ -228,7 +251,7 @@ pub(crate) fn place_code(heap: &ManagedHeap, number: Number, place: u64, refusal
 /// The first number that is no address.
 const PLACES: u64 = 1 << 40;
 
-/// Whether an object may be at this place.
+/// Returns whether an object may be at this place.
 fn is_place(place: u64) -> bool
     ensures { result ≡ is_place place }
 {

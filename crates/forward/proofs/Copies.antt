@@ -1,4 +1,4 @@
--- Entries that are noted as copied, and how many have still to be.
+-- Entries that are noted as copied, and how many are uncopied.
 use Rattle.std.proofs.Common.{◌≡◌, ◌≢◌, ℕ, zero, suc, ◌+◌, Bool, true, false, not, cond, ◌||◌}
 use Rattle.std.proofs.Common.{List, [], ◌∷◌, map, set, Some, None}
 use Rattle.std.proofs.Common.{refl, sym, ◌∙◌, ap, ap₂, arith, eq-eqb, ne_eqb, inl, inr}

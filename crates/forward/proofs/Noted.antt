@@ -1,4 +1,4 @@
--- Entries that are noted as copied by their numbers, and the entry behind another.
+-- Entries that are noted as copied by their numbers, and the entry after another.
 use Rattle.std.proofs.Common.{◌≡◌, ℕ, ◌+◌, ◌-◌, ◌<◌, ◌≤◌, Bool, true, false, cond, List, length, map, set}
 use Rattle.std.proofs.Common.{get_or, Option, Some, None, sym, ◌∙◌, ap, arith, length-set}
 use Rattle.std.specs.List.{slice_get}

@@ -1,4 +1,4 @@
--- Places, one behind the other.
+-- Places, one after the other.
 use Rattle.std.proofs.Common.{◌≡◌, ℕ, ◌+◌, ◌<◌, ◌≤◌, Bool, true, false, cond, List, [], ◌∷◌, ◌++◌, drop, length}
 use Rattle.std.proofs.Common.{get_or, nat_le, refl, sym, ◌∙◌, ap, ap₂, subst, arith, append_assoc, ◌⊎◌, inl, inr}
 use Rattle.std.specs.Prelude.{slice_index_or}

@@ -1,4 +1,4 @@
--- An entry that there is not gets no other place.
+-- Changing the place of an entry that doesn't exist.
 use Rattle.std.proofs.Common.{◌≡◌, ℕ, zero, suc, ◌≤◌, List, [], ◌∷◌, length, Option, Some, None}
 use Rattle.std.proofs.Common.{refl, ap, arith}
 use Rattle.std.specs.List.{slice_get}

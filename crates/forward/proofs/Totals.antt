@@ -1,4 +1,4 @@
--- How many entries of all side arrays have still to be copied.
+-- How many entries of all forwarding tables are uncopied.
 use Rattle.std.proofs.Common.{◌≡◌, ℕ, zero, suc, ◌+◌, ◌-◌, ◌*◌, ◌<◌, ◌≤◌, ◌^◌, List, [], ◌∷◌, length, take}
 use Rattle.std.proofs.Common.{get_or, set, replicate, Some, refl, sym, ◌∙◌, ap, subst, arith, length-set}
 use Rattle.std.proofs.Common.{Bool, true, false, not, ◌==◌, ◌≢◌, cond, map, Option, None}

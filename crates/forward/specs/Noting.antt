@@ -1,4 +1,4 @@
--- Where entries go, and entries that are noted as copied.
+-- The new addresses in entries, and entries that are noted as copied.
 use Rattle.std.specs.Prelude.{ℕ, ◌-◌, List, map, Option, Some, None, if◌then◌else◌}
 use Rattle.model.specs.declared.records.Forwarding.{Forwarding}
 use Rattle.model.specs.Moves.{set_copied_of}
@@ -9,22 +9,22 @@ abbrev pub offset_of : Option Forwarding → Option ℕ
 offset_of None = None
 offset_of (Some f) = Some f.offset
 
--- where its object goes
+-- the new address in it
 abbrev pub place_of : Option Forwarding → Option ℕ
 place_of None = None
 place_of (Some f) = Some f.to
 
--- where it goes, if it has still to be copied
+-- the new address in it, if it is uncopied
 abbrev pub place_to_copy : Option Forwarding → Option ℕ
 place_to_copy None = None
 place_to_copy (Some f) = if f.copied then None else Some f.to
 
--- a side array after the object of one of its entries is copied, where there is one that wasn't
+-- a forwarding table after the object of one of its entries is copied, if there is one that was uncopied
 abbrev pub noted_side : Option Forwarding → List Forwarding → List Forwarding
 noted_side None side = side
 noted_side (Some f) side = if f.copied then side else map (set_copied_of f.offset) side
 
--- the side arrays after it, where the entry is one of page n
+-- the forwarding tables after it, if the entry is one of page n
 abbrev pub noted_sides : ℕ → Option Forwarding → List (List Forwarding) → List (List Forwarding)
 noted_sides n None sides = sides
 noted_sides n (Some f) sides = if f.copied then sides else change_at sides (n - 1) (map (set_copied_of f.offset))

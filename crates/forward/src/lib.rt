@@ -1,5 +1,4 @@
-//! Where objects go: places in targets, and the side arrays that keep them (the paper's Relocate
-//! phase: forwarding stands apart from the page). Next fit, and the forms of the lists, are ours.
+//! Where objects go: places in targets, and forwarding tables, which keep them apart from the page.
 #![tactic(auto)]
 
 mod plan;

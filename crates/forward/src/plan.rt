@@ -9,7 +9,7 @@ ghost use Rattle.forward.specs.Places.{ArePlanned};
 use std::alloc::{AllocError, Global};
 use std::marker::Model;
 
-/// Where an object goes: a target, and an offset in it, in words (ours).
+/// The place of an object that moves: a target, and an offset in it, in words.
 #[derive(Clone, Copy, Debug, PartialEq, Eq)]
 pub struct Slot {
     target: usize,
@@ -27,14 +27,14 @@ impl Model for Slot {
 }
 
 impl Slot {
-    /// The number of the target, from 0.
+    /// Returns the number of the target, from 0.
     pub fn target(self) -> usize
         ensures { result ≡ self.0 }
     {
         self.target
     }
 
-    /// The offset in the target, in words.
+    /// Returns the offset in the target, in words.
     pub fn offset(self) -> u32
         ensures { result ≡ self.1 }
     {
@@ -42,11 +42,11 @@ impl Slot {
     }
 }
 
-/// The places of objects, in their order (ours). A target is an empty page.
+/// The places of objects, in their order. A target is an empty page.
 #[derive(Debug, Drop)]
 pub struct Plan {
     slots: Vec<Slot, Global>,
-    /// How many targets they are in.
+    /// How many targets the places are in.
     count: usize,
 }
 
@@ -62,10 +62,9 @@ impl Model for Plan {
 }
 
 impl Plan {
-    /// The places of objects of these sizes, in targets of so many words: the first at the head of
-    /// the first target, each other directly behind the one before, or at the head of the next
-    /// target where it doesn't fit. So each lies in its target, and no two overlap. A size is 1 to
-    /// the words of a target. Fails only by memory.
+    /// Plans places for objects of these sizes, in targets of `words` words: the first at the head of the first
+    /// target, each other directly after the previous one, or at the head of the next target if it doesn't fit. So
+    /// each lies in its target, and no two overlap. A size is 1 to `words`. Fails only if out of memory.
     pub fn new(alloc: Global, words: u32, sizes: &[u32]) -> Result<Plan, AllocError>
         ensures places { IfOk result (λ p. p ≡ places_from words 0 0 sizes.now) }
         ensures planned { IfOk result (λ p. Each sizes.now (λ n. n ≤ words) → ArePlanned words sizes.now p) }
@@ -87,21 +86,21 @@ impl Plan {
         Ok(Plan { slots, count })
     }
 
-    /// How many places there are.
+    /// Returns how many places there are.
     pub fn len(&self) -> usize
         ensures { result ≡ length self.now }
     {
         self.slots.len()
     }
 
-    /// How many targets the places are in.
+    /// Returns how many targets the places are in.
     pub fn targets(&self) -> usize
         ensures { result ≡ target_count self.now }
     {
         self.count
     }
 
-    /// The place of the object of this number, from 0, if there is one.
+    /// Returns the place of the object of this number, from 0, or `None`.
     pub fn place(&self, index: usize) -> Option<Slot>
         ensures { result ≡ slice_get self.now index }
     {

@@ -1,7 +1,7 @@
-//! The side array of a page.
+//! The forwarding table of a page.
 
 ghost use Rattle.std.specs.Prelude.{◌≡◌, ◌+◌, ◌-◌, ◌<◌, ◌≤◌, ◌==◌, length, map, slice_get, [], Some, IfOk, IfSome};
-ghost use Rattle.std.specs.Prelude.{not, count_by, replicate, false};
+ghost use Rattle.std.specs.Prelude.{not, count_by, is_some, replicate, false};
 ghost use Rattle.std.specs.List.{list_any};
 ghost use Rattle.model.specs.declared.limits.TheConstants.{MOST_WORDS};
 ghost use Rattle.model.specs.Marks.{entry_of};
@@ -20,19 +20,19 @@ use refword::Addr;
 use std::alloc::{AllocError, Global};
 use std::marker::Model;
 
-/// Where the live objects of a page go: an entry for each, by rising offset (the paper's Relocate
-/// phase: forwarding stands apart from the page). A contract sees the list of the entries.
+/// The forwarding table of a page: an entry for each live object, by rising offset, with the object's new address. A
+/// contract sees the list of the entries.
 #[derive(Debug, Drop)]
 pub struct Side {
-    /// Bit `i` is set where an entry has offset `i`.
+    /// Bit `i` is set if an entry has offset `i`.
     live: RankedRow,
-    /// Where the objects go, in the order of their offsets.
+    /// The objects' new addresses, in the order of their offsets.
     places: Vec<Addr, Global>,
-    /// Bit `i` is set where the entry of number `i` is copied.
+    /// Bit `i` is set if entry `i` is copied.
     copied: Row,
-    /// The offset that was kept last: an entry is mostly asked for again, or the next one.
+    /// The offset that was kept last: mostly that entry or the next one is looked up again.
     last: u32,
-    /// The number of its entry; past all where none was kept.
+    /// The number of that offset's entry; past all entries if none was kept.
     number: u32,
 }
 
@@ -50,7 +50,7 @@ impl Model for Side {
 }
 
 impl Side {
-    /// A side array without entries. It takes no memory.
+    /// Returns a forwarding table without entries. It takes no memory.
     #[tactic(auto, unfolding(crate::specs::Ranked::entries_of))]
     pub fn empty(alloc: Global) -> Side
         ensures { result ≡ [] }
@@ -64,8 +64,9 @@ impl Side {
         }
     }
 
-    /// A side array with an entry for each set bit of a row, which has at most the most words of a
-    /// page, and goes to the place of its number; none is copied. Fails only by memory.
+    /// Returns a forwarding table with an uncopied entry for each set bit of `live`, in order, with the address of
+    /// the same number in `places`. `live` has at most as many bits as the largest page has words. Fails only if out
+    /// of memory.
     pub fn new(alloc: Global, live: Row, places: Vec<Addr, Global>) -> Result<Side, AllocError>
         requires short { length live ≤ MOST_WORDS }
         requires many { length places.items ≡ count_by (λ b. b) live }
@@ -83,7 +84,7 @@ impl Side {
         })
     }
 
-    /// How many entries there are: at most the words of a page.
+    /// Returns how many entries there are: at most the words of a page.
     #[tactic(auto, using(crate::proofs::Ranked::entries_many, crate::proofs::Ranked::entries_few))]
     pub fn len(&self) -> usize
         ensures value { result ≡ length self.now }
@@ -92,14 +93,14 @@ impl Side {
         self.places.len()
     }
 
-    /// The offsets of the entries, as the set bits of a row.
+    /// Returns the offsets of the entries, as the set bits of a bitmap.
     pub fn live(&self) -> &Row
         ensures { IsLiveOf result.now self.now }
     {
         self.live.row()
     }
 
-    /// The entry of a number that there is.
+    /// Returns the entry of a number, which exists.
     fn numbered(&self, index: usize) -> Forwarding
         requires { index < length self.now }
         ensures { slice_get self.now index ≡ Some result }
@@ -107,7 +108,7 @@ impl Side {
         self.entry(index).unwrap()
     }
 
-    /// All entries, by rising offset, in a list of their own. Fails only by memory.
+    /// Returns all entries, by rising offset, in a list of their own. Fails only if out of memory.
     pub fn entries(&self, alloc: Global) -> Result<Vec<Forwarding>, AllocError>
         ensures { IfOk result (λ v. v.items ≡ self.now) }
     {
@@ -119,8 +120,8 @@ impl Side {
         Ok(entries)
     }
 
-    /// The entry of a number, from 0, if there is one. It is found without a search where it is the one
-    /// that was kept last, or noted as copied by its offset, or the next.
+    /// Returns the entry of a number, from 0, or `None`. It is found without a search if it is the entry that was
+    /// last kept, or noted as copied by its offset, or the next one.
     pub fn entry(&self, index: usize) -> Option<Forwarding>
         ensures { result ≡ slice_get self.now index }
     {
@@ -132,8 +133,8 @@ impl Side {
         }
     }
 
-    /// The same, whatever the offset says: it is found without a search where it is the first one from
-    /// there on, or the second.
+    /// The same, whatever `near` is: the entry is found without a search if it is the first or second from that
+    /// offset on.
     pub fn entry_near(&self, index: usize, near: u32) -> Option<Forwarding>
         ensures { result ≡ slice_get self.now index }
     {
@@ -148,8 +149,8 @@ impl Side {
         })
     }
 
-    /// The entry of a number, from 1, if there is one, by the offset of the entry before it: found by
-    /// the words up to its own.
+    /// Returns the entry of a number, from 1, or `None`, by the offset of the previous entry: found by the words up
+    /// to its own.
     #[inline(always)]
     pub fn entry_behind(&self, index: usize, before: u32) -> Option<Forwarding>
         requires low { 0 < index }
@@ -167,8 +168,7 @@ impl Side {
         })
     }
 
-    /// Where the object of the entry of a number, from 0, goes, if there is one. Its offset isn't
-    /// looked for.
+    /// Returns the new address in the entry of a number, from 0, or `None`. The entry's offset isn't looked up.
     #[inline(always)]
     pub fn place(&self, index: usize) -> Option<Addr>
         ensures { result ≡ place_of (slice_get self.now index) }
@@ -179,7 +179,15 @@ impl Side {
         Some(self.places[index])
     }
 
-    /// The entry of an offset, if there is one: found by one bit, one number and one word.
+    /// Returns whether an offset has an entry: found by one bit.
+    #[inline(always)]
+    pub fn has(&self, offset: u32) -> bool
+        ensures { result ≡ is_some (entry_of self.now offset) }
+    {
+        self.live.test(offset as usize)
+    }
+
+    /// Returns the entry of an offset, or `None`: found by one bit, one number and one word.
     pub fn find(&self, offset: u32) -> Option<Forwarding>
         ensures { result ≡ entry_of self.now offset }
     {
@@ -194,7 +202,7 @@ impl Side {
         })
     }
 
-    /// The number, from 0, of the entry of an offset, if there is one: found as `find` does.
+    /// Returns the number, from 0, of the entry of an offset, or `None`: found as in `find`.
     #[tactic(auto, using(crate::proofs::Ranked::rank_few))]
     pub fn number_of(&self, offset: u32) -> Option<u32>
         ensures entry { entry_of self.now offset ≡ found_at self.now result }
@@ -219,8 +227,8 @@ impl Side {
         }
     }
 
-    /// Notes that the object of the entry of a number, from 0, is copied, where there is one that
-    /// wasn't, and answers where that goes. Its offset isn't looked for.
+    /// Notes that the object of the entry of a number, from 0, is copied, if there is such an entry and it is
+    /// uncopied. Returns its new address if so, else `None`. The entry's offset isn't looked up.
     #[inline(always)]
     pub fn note(&mut self, number: usize) -> Option<Addr>
         ensures place { result ≡ place_to_copy (slice_get self.old number) }
@@ -238,8 +246,8 @@ impl Side {
         Some(to)
     }
 
-    /// Keeps where the entry of a number, from 0, lies: then it is found without a search, and the next
-    /// one too.
+    /// Remembers the offset of the entry of a number, from 0: then it is found without a search, and the next one
+    /// too.
     pub fn keep(&mut self, index: usize)
         ensures { self.new ≡ self.old }
     {
@@ -249,7 +257,7 @@ impl Side {
         }
     }
 
-    /// Gives the object of the entry of a number, from 0, another place, if there is one.
+    /// Changes the new address in the entry of a number, from 0, if there is one.
     pub fn set_place(&mut self, index: usize, to: Addr)
         ensures { self.new ≡ change_at self.old index (set_place_of to) }
     {
@@ -258,7 +266,7 @@ impl Side {
         }
     }
 
-    /// How many entries have still to be copied: at most the words of a page.
+    /// Returns how many entries are uncopied: at most the words of a page.
     pub fn uncopied(&self) -> u32
         ensures value { result ≡ uncopied_in self.now }
         ensures range { result ≤ MOST_WORDS }
@@ -266,7 +274,7 @@ impl Side {
         (self.places.len() - self.copied.count()) as u32
     }
 
-    /// Whether all entries are copied.
+    /// Returns whether all entries are copied.
     pub fn is_copied(&self) -> bool
         ensures { result ≡ not (list_any is_uncopied self.now) }
     {

@@ -1,6 +1,7 @@
-//! The side arrays of all pages.
+//! The forwarding tables of all pages.
 
-ghost use Rattle.std.specs.Prelude.{◌≡◌, ◌<◌, ◌≤◌, length, replicate, map, slice_get, slice_set, [], IfOk, IfSome, not};
+ghost use Rattle.std.specs.Prelude.{◌≡◌, ◌<◌, ◌≤◌, length, replicate, map, slice_get, slice_set, [], IfOk, IfSome, is_some, not};
+ghost use Rattle.std.specs.Prelude.{unwrap_or};
 ghost use Rattle.std.specs.List.{list_any};
 ghost use Rattle.std.specs.Option.{option_copied};
 ghost use Rattle.model.specs.States.{change_at};
@@ -19,12 +20,12 @@ use refword::Addr;
 use std::alloc::{AllocError, Global};
 use std::marker::Model;
 
-/// A side array for each page that has a record, by the record's index: empty where nothing moves.
-/// A contract sees the list of them.
+/// A forwarding table for each page that has a record, by the record's index: empty if nothing moves. A contract sees
+/// the list of them.
 #[derive(Debug, Drop)]
 pub struct Sides {
     sides: Vec<Side, Global>,
-    /// How many entries of all of them have still to be copied.
+    /// How many entries of all tables are uncopied.
     left: usize,
 }
 
@@ -41,7 +42,7 @@ impl Model for Sides {
 }
 
 impl Sides {
-    /// So many side arrays, all empty: in a heap at most 1,048,575. Fails only by memory.
+    /// Returns `count` empty forwarding tables: in a heap at most 1,048,575. Fails only if out of memory.
     pub fn new(alloc: Global, count: u32) -> Result<Sides, AllocError>
         ensures { IfOk result (λ s. s ≡ replicate count []) }
     {
@@ -52,127 +53,115 @@ impl Sides {
         Ok(Sides { sides, left: 0 })
     }
 
-    /// The side array of an index from 0, if it is there.
+    /// Returns the forwarding table of an index from 0, if it exists.
     pub fn get(&self, index: usize) -> Option<&Side>
         ensures { option_copied result ≡ slice_get self.now index }
     {
         self.sides.get(index)
     }
 
-    /// The entry of an offset of a page, by the page's number from 1: its side array has the index
-    /// below. Where there is no such side array, there is none.
-    pub fn entry_at(&self, page: u64, offset: u32) -> Option<Forwarding>
-        ensures { result ≡ entry_of (of_page self.now page) offset }
+    /// Returns the forwarding table of a page, by the page's number from 1, or `None` if it has no record.
+    #[inline(always)]
+    fn on(&self, page: u64) -> Option<&Side>
+        ensures { of_page self.now page ≡ unwrap_or (option_copied result) [] }
     {
         if page == 0 {
             return None;
         }
-        match self.sides.get((page - 1) as usize) {
-            None => None,
-            Some(side) => side.find(offset),
+        self.sides.get((page - 1) as usize)
+    }
+
+    /// Returns whether an offset of a page has an entry, by the page's number from 1.
+    #[inline(always)]
+    pub fn has_entry(&self, page: u64, offset: u32) -> bool
+        ensures { result ≡ is_some (entry_of (of_page self.now page) offset) }
+    {
+        match self.on(page) {
+            None => false,
+            Some(side) => side.has(offset),
         }
     }
 
-    /// The entry of a number, from 0, of a page, by the page's number from 1; `None` where there is
-    /// no such entry (ours).
+    /// Returns the entry of an offset of a page, by the page's number from 1, or `None` if there is none. The index
+    /// of the page's forwarding table is one less; if there is no such table, there is no entry.
+    pub fn entry_at(&self, page: u64, offset: u32) -> Option<Forwarding>
+        ensures { result ≡ entry_of (of_page self.now page) offset }
+    {
+        self.on(page)?.find(offset)
+    }
+
+    /// Returns entry `number`, from 0, of a page, by the page's number from 1, or `None` if there is no such entry.
     pub fn entry_on(&self, page: u32, number: u32) -> Option<Forwarding>
         ensures { result ≡ slice_get (of_page self.now page) number }
     {
         self.entry_numbered(u64::from(page), number)
     }
 
-    /// The same of a page's number that may be greater than any page's.
+    /// The same for a page number that may be greater than any page's.
     pub fn entry_numbered(&self, page: u64, number: u32) -> Option<Forwarding>
         ensures { result ≡ slice_get (of_page self.now page) number }
     {
-        if page == 0 {
-            return None;
-        }
-        match self.sides.get((page - 1) as usize) {
-            None => None,
-            Some(side) => side.entry(number as usize),
-        }
+        self.on(page)?.entry(number as usize)
     }
 
-    /// Where the object of the entry of a number, from 0, of a page goes, by the page's number from 1;
-    /// `None` where there is no such entry (ours). Its offset isn't looked for.
+    /// Returns the new address in entry `number`, from 0, of a page, by the page's number from 1, or `None` if there
+    /// is no such entry. The entry's offset isn't looked up.
     #[inline(always)]
     pub fn place_on(&self, page: u64, number: u32) -> Option<Addr>
         ensures { result ≡ place_of (slice_get (of_page self.now page) number) }
     {
-        if page == 0 {
-            return None;
-        }
-        match self.sides.get((page - 1) as usize) {
-            None => None,
-            Some(side) => side.place(number as usize),
-        }
+        self.on(page)?.place(number as usize)
     }
 
-    /// The number, from 0, of the entry of an offset of a page, by the page's number from 1; `None`
-    /// where there is no such entry (ours).
+    /// Returns the number, from 0, of the entry of an offset of a page, by the page's number from 1, or `None` if
+    /// there is no such entry.
     pub fn number_at(&self, page: u64, offset: u32) -> Option<u32>
         ensures entry { entry_of (of_page self.now page) offset ≡ found_at (of_page self.now page) result }
         ensures there { IfSome result (λ i. i < length (of_page self.now page)) }
     {
-        if page == 0 {
-            return None;
-        }
-        match self.sides.get((page - 1) as usize) {
-            None => None,
-            Some(side) => side.number_of(offset),
-        }
+        self.on(page)?.number_of(offset)
     }
 
-    /// How many entries a page has, by the page's number from 1: at most the words of a page.
+    /// Returns how many entries a page has, by the page's number from 1: at most the words of a page.
     pub fn count_on(&self, page: u32) -> u32
         ensures value { result ≡ length (of_page self.now page) }
         ensures range { result ≤ MOST_WORDS }
     {
-        if page == 0 {
-            return 0;
-        }
-        match self.sides.get((page - 1) as usize) {
+        match self.on(u64::from(page)) {
             None => 0,
             Some(side) => side.len() as u32,
         }
     }
 
-    /// How many entries of a page have still to be copied, by the page's number from 1.
+    /// Returns how many entries of a page are uncopied, by the page's number from 1.
     pub fn uncopied_on(&self, page: u32) -> u32
         ensures { result ≡ uncopied_in (of_page self.now page) }
     {
-        if page == 0 {
-            return 0;
-        }
-        match self.sides.get((page - 1) as usize) {
+        match self.on(u64::from(page)) {
             None => 0,
             Some(side) => side.uncopied(),
         }
     }
 
-    /// Whether all entries of a page are copied, by the page's number from 1. Where it has no side
-    /// array, they are.
+    /// Returns whether all entries of a page are copied, by the page's number from 1. If it has no forwarding table,
+    /// they are.
     pub fn is_copied(&self, page: u32) -> bool
         ensures { result ≡ not (list_any is_uncopied (of_page self.now page)) }
     {
-        if page == 0 {
-            return true;
-        }
-        match self.sides.get((page - 1) as usize) {
+        match self.on(u64::from(page)) {
             None => true,
             Some(side) => side.is_copied(),
         }
     }
 
-    /// How many entries of all side arrays have still to be copied.
+    /// Returns how many entries of all forwarding tables are uncopied.
     pub fn uncopied(&self) -> u64
         ensures { result ≡ uncopied_count self.now }
     {
         self.left as u64
     }
 
-    /// Replaces the side array of an index, if it is there. The old one is let go.
+    /// Replaces the forwarding table of an index, if it exists. The old one is freed.
     #[tactic(auto, using(crate::proofs::Totals::room_left))]
     pub fn put(&mut self, index: usize, side: Side)
         ensures { self.new ≡ slice_set self.old index side }
@@ -185,8 +174,8 @@ impl Sides {
         self.sides[index] = side;
     }
 
-    /// Notes that the object of an offset is copied, if the side array of this index is there, and
-    /// has an entry of the offset.
+    /// Notes that the object of an offset is copied, if the forwarding table of this index exists and has an entry of
+    /// the offset.
     #[tactic(auto, using(crate::proofs::Totals::room_left, crate::proofs::Totals::changed))]
     pub fn set_copied(&mut self, index: usize, offset: u32)
         ensures { self.new ≡ change_at self.old index (map (set_copied_of offset)) }
@@ -199,8 +188,8 @@ impl Sides {
         }
     }
 
-    /// Notes that the object of the entry of a number, from 0, of a page is copied, by the page's
-    /// number from 1, where there is one that wasn't, and answers where that goes.
+    /// Notes that the object of entry `number`, from 0, of a page is copied, by the page's number from 1, if there is
+    /// such an entry and it is uncopied. Returns the new address if so, else `None`.
     #[inline(always)]
     pub fn note(&mut self, page: u64, number: u32) -> Option<Addr>
         ensures place { result ≡ place_to_copy (slice_get (of_page self.old page) number) }
@@ -219,8 +208,8 @@ impl Sides {
         Some(to)
     }
 
-    /// Keeps where the entry of a number, from 0, of a page lies, by the page's number from 1: then it is
-    /// found without a search, and the next one too.
+    /// Remembers the offset of entry `number`, from 0, of a page, by the page's number from 1: then it is found
+    /// without a search, and the next one too.
     pub fn keep(&mut self, page: u64, number: u32)
         ensures { self.new ≡ self.old }
     {
@@ -230,7 +219,7 @@ impl Sides {
         }
     }
 
-    /// Lets all entries go. A side array that is empty costs one test.
+    /// Clears all forwarding tables and frees their entries. An empty table costs one test.
     pub fn clear_all(&mut self)
         ensures { self.new ≡ replicate (length self.old) [] }
     {

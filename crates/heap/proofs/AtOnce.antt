@@ -1,4 +1,4 @@
--- Where no trap is due, a load is done at once.
+-- If no trap is due, a load is done at once.
 use Rattle.std.proofs.lemmas.List.{set-set}
 use Rattle.std.proofs.Common.{◌≡◌, ℕ, ◌==◌, ◌<◌, Bool, true, false, Option, Some, None, List, length, refl, nat_le, sym}
 use Rattle.std.proofs.Common.{subst, arith, ap, ◌∙◌, length-set}

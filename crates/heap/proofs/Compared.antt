@@ -1,4 +1,4 @@
--- Two registers are compared by what their words have.
+-- Two registers are compared by the numbers of their words.
 use Rattle.std.proofs.Common.{◌≡◌, ◌<◌, ℕ, nat_eq, Bool, true, false, Some, None, refl, ap, arith}
 use Rattle.std.specs.Prelude.{Ok}
 use Rattle.std.proofs.lemmas.Bool.Decides.{nat_tests}

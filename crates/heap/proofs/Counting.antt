@@ -1,4 +1,4 @@
--- The count of globals that are still to be marked.
+-- The count of grey globals.
 use Rattle.std.proofs.Common.{◌≡◌, ℕ, ◌-◌, ◌*◌, ◌<◌, ◌≤◌, Bool, true, false, List, [], ◌∷◌, map}
 use Rattle.std.proofs.Common.{replicate, set, length, get_or, position, take, drop, ◌++◌}
 use Rattle.std.proofs.Common.{Option, Some, None, refl, sym, ◌∙◌, ap, subst, arith}

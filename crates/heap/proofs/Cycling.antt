@@ -1,4 +1,4 @@
--- The start and the end of a mark keep what holds of a heap.
+-- The start and the end of a mark keep the invariant of a heap.
 use Rattle.std.proofs.Common.{◌≡◌, ℕ, zero, suc, Bool, true, false, List, [], ◌∷◌, length, map, replicate, Option}
 use Rattle.std.proofs.Common.{Some, None}
 use Rattle.std.proofs.Common.{refl, sym, ◌∙◌, ap, subst, rules, arith, nat_eq}

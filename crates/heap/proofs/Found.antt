@@ -1,4 +1,4 @@
--- Objects that were found: what a thread learns of one, and what leaves it found.
+-- Objects that were found: what a thread learns of one, and which steps leave it found.
 use Rattle.std.proofs.Common.{◌≡◌, ◌≢◌, ◌∙◌, ◌/◌, ◌%◌, ◌+◌, ◌<◌, ◌≤◌, ℕ, Bool, true, false, List, length, get_or, Option, Some, None}
 use Rattle.std.proofs.Common.{refl, sym, ap, subst, arith}
 use Rattle.std.specs.Prelude.{Ok, IfSome, slice_get, if◌then◌else◌}

@@ -1,4 +1,4 @@
--- What is done to a heap keeps its invariant.
+-- Edits of a heap keep its invariant.
 use Rattle.std.proofs.Common.{◌≡◌, ℕ, Bool, ◌-◌, ◌<◌, ◌≤◌, ◌+◌, List, Option, Some, None, replicate, arith, rules}
 use Rattle.std.proofs.Common.{length, map, set, cond, ap, ◌∙◌, sym, subst, true, false, refl}
 use Rattle.std.specs.Prelude.{◌==◌}

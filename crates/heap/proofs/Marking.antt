@@ -1,4 +1,4 @@
--- Marks keep what holds of a heap.
+-- Marks keep the invariant of a heap.
 use Rattle.std.proofs.Common.{◌≡◌, ℕ, zero, suc, ◌-◌, ◌/◌, ◌%◌, Bool, true, false, List, [], ◌∷◌, Option, None, Some}
 use Rattle.std.proofs.Common.{set, count_by, refl, arith}
 use Rattle.std.proofs.Common.{◌∙◌, sym, ap, subst}

@@ -1,4 +1,4 @@
--- Edits that move objects keep what holds of a heap.
+-- Edits that relocate objects keep the invariant of a heap.
 use Rattle.std.proofs.Common.{◌≡◌, ℕ, ◌+◌, ◌-◌, ◌/◌, ◌%◌, Bool, true, false, List, [], ◌∷◌, length, map, set, refl, sym}
 use Rattle.std.proofs.Common.{◌∙◌, ap, subst}
 use Rattle.std.proofs.Math.ListN.{length-set}

@@ -1,4 +1,4 @@
--- Runs of entries whose objects are copied: the words are written at once, and then it is noted.
+-- Runs of entries whose objects are copied: the words are written at once, and then the copies are noted.
 use Rattle.std.proofs.Common.{◌≡◌, ◌≢◌, ℕ, zero, suc, ◌+◌, ◌-◌, ◌*◌, ◌/◌, ◌%◌, ◌<◌, ◌≤◌, ◌||◌, Bool, true, false, cond}
 use Rattle.std.proofs.Common.{nat_eq}
 use Rattle.std.proofs.Common.{List, [], ◌∷◌, length, map, take, drop, get_or, Option, Some, None}

@@ -10,7 +10,8 @@ use Rattle.refword.specs.Words.{IsAddress}
 use Rattle.model.specs.declared.records.Buffer.{Buffer}
 use Rattle.model.specs.Stores.{StoreState, overlay, with_words, words_at, page_at, frame_in, changed_in, changed_frame}
 use Rattle.model.specs.Owning.{IsStore, LiesIn}
-use Rattle.model.proofs.Memory.{words_in, words_sized}
+use Rattle.model.proofs.Memory.{length_overlaid, words_in, words_sized}
+use Rattle.pieces.proofs.Overlays.{overlaid_all}
 
 -- two changes that do the same to a page's words
 same_words : (s : StoreState) (n : ℕ) (f g : List ℕ → List ℕ) → IfSome (words_at s n) (λ ws. f ws ≡ g ws)
@@ -89,3 +90,11 @@ written_object s b part final header others h l room e k =
 
 pub address_found : (o : Option ℕ) (n : ℕ) → (IsAddress n → o ≡ Some n) → IsAddress n → IsSome o
 address_found o n h a = ap is_some (h a)
+
+-- words of a page that was lent, with others written over them
+pub overlaid_page : (s : StoreState) (n start : ℕ) (ws new xs : List ℕ) → words_at s n ≡ Some ws
+    → new ≡ overlay ws start xs → with_words s n (λ us. overlay us 0 new) ≡ with_words s n (λ us. overlay us start xs)
+overlaid_page s n start ws new xs at is =
+    same_words s n (λ us. overlay us 0 new) (λ us. overlay us start xs)
+    (subst (λ (o : Option (List ℕ)). IfSome o (λ us. overlay us 0 new ≡ overlay us start xs)) (sym at)
+    (overlaid_all ws new (ap length is ∙ length_overlaid ws start xs) ∙ is))

@@ -1,4 +1,4 @@
--- Loads that are done at once, where no trap is due.
+-- Loads that are done at once, if no trap is due.
 use Rattle.std.specs.Prelude.{◌≡◌, ◌/◌, ◌&&◌, not, ℕ, Ok, Some, None, Bool, true, false, IfSome}
 use Rattle.refword.specs.Words.{address_in, mark_in}
 use Rattle.model.specs.declared.records.Counter.TheVariants as counters
@@ -30,11 +30,11 @@ IsOpenTo h address = is_protected (state_at h.store (address / h.store.words)) �
 abbrev pub IsOnFrame : HeapState → ℕ → ℕ → Type 0
 IsOnFrame h address frame = usable_frame h.store (address / h.store.words) ≡ Some frame
 
--- a mark runs, and the word hasn't the collector's NMT value
+-- a mark runs, and the word's NMT bit isn't the clean value
 abbrev pub mark_is_due : HeapState → Reference → Bool
 mark_is_due h w = is_marking h.phase && not (same_bit (mark_in w) h.nmt)
 
--- a word is null, or neither to be marked nor on a protected page
+-- a word is null, or needs no marking and is on no protected page
 abbrev pub IsQuiet : HeapState → Reference → Type 0
 IsQuiet h w = IfSome w (λ v. (mark_is_due h (Some v) ≡ false) × IsOpenTo h v.0)
 
@@ -59,8 +59,8 @@ pub record ReadsAtOnce (h : HeapState) (address i : ℕ) (w : Reference) : Type 
   pub read : word_at h.store place ≡ Some bits
   pub word : w ≡ read_reference bits
 
--- heap g is what a load leads to by the step that begins it and its last, between which no trap is due; the heap
--- between them keeps what all heaps keep
+-- heap g is the result of a load's first step and its last, between which no trap is due; the heap between them has
+-- the invariants of heaps
 pub record LoadsAtOnce (h : HeapState) (t : ℕ) (begin : Step) (g : HeapState) : Type 0 where
   pub between : HeapState
   pub heap : IsHeap between
@@ -68,7 +68,7 @@ pub record LoadsAtOnce (h : HeapState) (t : ℕ) (begin : Step) (g : HeapState) 
   pub loads : outcome h (Thread t) begin ≡ Ok (between, answers.Loaded)
   pub ends : outcome between (Thread t) steps.Finish ≡ Ok (g, answers.Done)
 
--- true where the load is done at once, and false where nothing is done
+-- true if the load is done at once, and false if nothing is done
 abbrev pub MayLoadAtOnce : Bool → HeapState → ℕ → Step → HeapState → Type 0
 MayLoadAtOnce true h t begin g = LoadsAtOnce h t begin g
 MayLoadAtOnce false h t begin g = g ≡ h

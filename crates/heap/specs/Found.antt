@@ -6,7 +6,7 @@ use Rattle.model.specs.States.{HeapState}
 use Rattle.heap.specs.AtOnce.{IsOnFrame, UsesAtOnce}
 use Rattle.heap.specs.declared.heap.at_once.found.FoundObject.{FoundObject}
 
--- thread t may use the object that register r names: it stands here, has this layout, and ends within its page
+-- thread t may use the object that register r names: it is at this place, has this layout, and ends within its page
 pub record FindsObject (h : HeapState) (t r : ℕ) (o : FoundObject) : Type 0 where
   pub uses : UsesAtOnce h t r o.address
   pub frame : IsOnFrame h o.address o.frame

@@ -8,3 +8,4 @@ pub mod Relocating
 pub mod Runs
 pub mod Marking
 pub mod Found
+pub mod Writing

@@ -3,14 +3,14 @@ use Rattle.std.specs.Prelude.{◌≡◌, ℕ, false, replicate}
 use Rattle.heap.specs.declared.heap.opening.PageRows.{PageRows}
 use Rattle.heap.specs.declared.heap.opening.PageMemory.{PageMemory}
 
--- rows of so many bits, all clear
+-- bitmaps of `words` bits, all clear
 pub record AreClear (words : ℕ) (rows : PageRows) : Type 0 where
   pub starts : rows.starts ≡ replicate words false
   pub live : rows.live ≡ replicate words false
   pub mark : rows.mark ≡ replicate words false
   pub todo : rows.todo ≡ replicate words false
 
--- memory of a page of so many words: all of them 0, and rows that are clear
+-- memory of a page of `words` words: all of them 0, and clear bitmaps
 pub record IsBlank (words : ℕ) (memory : PageMemory) : Type 0 where
   pub frame : memory.frame ≡ replicate words 0
   pub rows : AreClear words memory.rows

@@ -1,4 +1,4 @@
--- Edits that move objects.
+-- Edits that relocate objects.
 use Rattle.std.specs.Prelude.{◌≡◌, ℕ, false, List, map, Result, Ok, Err}
 use Rattle.model.specs.declared.records.Buffer.{Buffer}
 use Rattle.model.specs.declared.records.Phase.TheVariants.{ProtectCrossing}
@@ -7,7 +7,7 @@ use Rattle.model.specs.Protections.{take_target, with_target, with_from_pages}
 use Rattle.model.specs.States.{HeapState}
 use Rattle.model.specs.Threads.{set_crossed_of}
 
--- a call opened the target that the store gives, or told why there is no room
+-- a call opened the target that the store returns, or returned why there is no space
 abbrev pub OpensTarget : HeapState → Result Buffer Room → HeapState → Type 0
 OpensTarget old (Ok b) new = (take_target old.store ≡ Ok (new.store, b)) × (new ≡ with_target old (new.store, b))
 OpensTarget old (Err e) new = (take_target old.store ≡ Err e) × (new ≡ old)

@@ -1,4 +1,4 @@
--- Runs: entries of a page's side array, one after the other, whose objects are copied.
+-- Runs: consecutive entries of a page's forwarding table, whose objects are copied.
 use Rattle.std.specs.Prelude.{◌≡◌, ℕ, zero, suc, ◌+◌, ◌*◌, ◌/◌, ◌<◌, Bool, true, List, Option, Some, None}
 use Rattle.std.specs.Prelude.{slice_get}
 use Rattle.std.specs.Prelude.{if◌then◌else◌}
@@ -8,7 +8,7 @@ use Rattle.model.specs.Bits.{of_page, with_bit}
 use Rattle.model.specs.Moves.{copied_by}
 use Rattle.forward.specs.Noting.{noted_sides}
 
--- the heap after the object of an entry of page n is copied, where there is one that wasn't
+-- the heap after the object of an entry of page n is copied, if there is one that was uncopied
 abbrev pub with_entry : HeapState → ℕ → Option Forwarding → HeapState
 with_entry h n None = h
 with_entry h n (Some f) = copied_by h (n * h.store.words + f.offset) (Some f)
@@ -18,12 +18,12 @@ abbrev pub with_entries : HeapState → ℕ → ℕ → ℕ → HeapState
 with_entries h n e zero = h
 with_entries h n e (suc k) = with_entries (with_entry h n (slice_get (of_page h.sides n) e)) n (e + 1) k
 
--- k entries of a side array, from number e on, go to one target
+-- k entries of a forwarding table, from number e on, go to one target
 abbrev pub GoTo : ℕ → ℕ → List Forwarding → ℕ → ℕ → Type 0
 GoTo words target side e k =
     (i : ℕ) (f : Forwarding) → i < k → slice_get side (e + i) ≡ Some f → f.to / words ≡ target
 
--- what is noted of objects that are copied: where they start, and that they are
+-- notes of copied objects: where they start, and that they are copied
 pub record Notes : Type 0 where
   pub starts : List (List Bool)
   pub sides : List (List Forwarding)
@@ -31,12 +31,12 @@ pub record Notes : Type 0 where
 abbrev pub notes : List (List Bool) → List (List Forwarding) → Notes
 notes starts sides = record { starts = starts; sides = sides }
 
--- the bits of starts after the object of an entry is copied, where there is one that wasn't
+-- the bits of starts after the object of an entry is copied, if there is one that was uncopied
 abbrev pub noted_starts : ℕ → Option Forwarding → List (List Bool) → List (List Bool)
 noted_starts words None starts = starts
 noted_starts words (Some f) starts = if f.copied then starts else with_bit starts words f.to true
 
--- what is noted then, of an entry of page n
+-- the notes after that, for an entry of page n
 abbrev pub noted_by : ℕ → ℕ → Option Forwarding → Notes → Notes
 noted_by words n o z = notes (noted_starts words o z.starts) (noted_sides n o z.sides)
 

@@ -21,6 +21,6 @@ heap_of h = record {
   births = h.births;
 }
 
--- what a heap keeps, of that data
+-- the invariant of a heap, on that data
 abbrev pub IsHeapInside : Inside → Type 0
 IsHeapInside h = IsHeap (heap_of h)

@@ -10,7 +10,7 @@ pub enum NewFault {
     /// A field of the configuration is out of its range: the first such field.
     #[error("{0}")]
     Config(ConfigFault),
-    /// Memory was refused.
+    /// Out of memory.
     #[error("out of memory")]
     Memory,
 }

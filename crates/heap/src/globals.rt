@@ -1,4 +1,4 @@
-//! The globals of a heap. That those are counted which are still to be marked is ours.
+//! The globals of a heap, with a count of the grey ones: those still to be marked.
 
 ghost use Rattle.std.specs.Prelude.{◌≡◌, ◌<◌, map, replicate, position, length, None, false, IfOk, IfSome};
 ghost use Rattle.model.specs.Cycles.{set_todo_of};
@@ -15,11 +15,11 @@ use std::marker::Model;
 
 /// The globals, by number from 0. A contract sees the list of them.
 ///
-/// It keeps how many are still to be marked, so that none is looked for where none is left.
+/// It counts the grey ones, those still to be marked, so that none is searched for if none is left.
 #[derive(Drop)]
 pub struct Globals {
     list: Vec<Global>,
-    /// How many are still to be marked.
+    /// How many are grey.
     left: usize,
 }
 
@@ -35,7 +35,7 @@ impl Model for Globals {
     ghost invariant = { λ g. g.left ≡ todo_count g.list.items };
 }
 
-/// All globals have still to be marked.
+/// Makes all globals grey.
 #[tactic(auto, using(thread_records::proofs::Looping::mapped_none, thread_records::proofs::Looping::mapped_more, thread_records::proofs::Looping::mapped_all))]
 fn set_each_todo(globals: &mut [Global])
     ensures { globals.new ≡ map set_todo_of globals.old }
@@ -45,7 +45,7 @@ fn set_each_todo(globals: &mut [Global])
     }
 }
 
-/// As how many a global counts of those that are still to be marked.
+/// Returns how much a global adds to the count of grey ones.
 fn counted_todo(global: &Global) -> usize
     ensures { result ≡ counted_todo global.now }
 {
@@ -53,7 +53,7 @@ fn counted_todo(global: &Global) -> usize
 }
 
 impl Globals {
-    /// So many globals, all null, none of which is to be marked. Fails only by memory.
+    /// Returns `count` globals, all null and none grey. Fails only if out of memory.
     #[tactic(auto, using(crate::proofs::Counting::none_todo))]
     pub fn new(alloc: Memory, count: u32) -> Result<Globals, AllocError>
         ensures { IfOk result (λ g. g ≡ replicate count (record { word = None; todo = false })) }
@@ -66,14 +66,14 @@ impl Globals {
         Ok(Globals { list, left: 0 })
     }
 
-    /// The globals, by number from 0.
+    /// Returns the globals, by number from 0.
     pub fn as_slice(&self) -> &[Global]
         ensures { result.now ≡ self.now }
     {
         &self.list
     }
 
-    /// The number, from 0, of the first that is still to be marked.
+    /// Returns the number, from 0, of the first grey global, or `None`.
     #[tactic(auto, using(crate::proofs::Counting::none_found))]
     pub fn first_todo(&self) -> Option<usize>
         ensures place { result ≡ position is_todo self.now }
@@ -85,7 +85,7 @@ impl Globals {
         self.list.iter().position(|global| global.todo)
     }
 
-    /// Writes the word of a global, if it is there.
+    /// Writes the word of a global, if it exists.
     #[tactic(auto, using(crate::proofs::Counting::still_todo))]
     pub fn set_word(&mut self, number: u32, word: Word)
         ensures { self.new ≡ change_at self.old number (set_word_of word) }
@@ -96,7 +96,7 @@ impl Globals {
         }
     }
 
-    /// Writes the word of a global that is marked now, if it is there.
+    /// Writes the marked word of a global, if it exists: the global is no longer grey.
     #[tactic(auto, using(crate::proofs::Counting::counted, crate::proofs::Counting::one_less))]
     pub fn set_marked(&mut self, number: u32, word: Word)
         ensures { self.new ≡ change_at self.old number (set_marked_of word) }
@@ -110,7 +110,7 @@ impl Globals {
         }
     }
 
-    /// All have still to be marked.
+    /// Makes all globals grey.
     #[tactic(auto, using(crate::proofs::Counting::all_todo_back))]
     pub fn set_all_todo(&mut self)
         ensures { self.new ≡ map set_todo_of self.old }

@@ -1,7 +1,4 @@
 //! The heap: pages, threads, workers, globals and the collector's state, and the steps of threads.
-//!
-//! The paper is Click, Tene and Wolf, "The Pauseless GC Algorithm" (VEE 2005). A comment that names
-//! one of its sections tells a rule of that section; all else is ours.
 #![tactic(auto)]
 
 mod fault;

@@ -10,7 +10,7 @@ abbrev rest_of : List ℕ → List ℕ
 rest_of [] = []
 rest_of (x ∷ xs) = xs
 
--- in a list of numbers that rise by one, the number behind so many others
+-- in a list of numbers that rise by one, the number after those of a prefix
 pub number_at : (ys rest : List ℕ) (s a n : ℕ) → ys ++ s ∷ rest ≡ range_with_len a n → s ≡ a + length ys
 number_at [] rest s a zero e = absurd (cc)
 number_at [] rest s a (suc n) e = let is : s ≡ a = ap (first_of a) e in omega (arith, is)

@@ -1,4 +1,4 @@
--- What the registers name is what the plain heap has in them.
+-- The births to which registers refer are those in the reference model's registers.
 use Rattle.std.proofs.Common.{◌≡◌, ◌∙◌, ◌+◌, ℕ, zero, suc, List, [], ◌∷◌, map, length, refl, sym, ap, subst, arith}
 use Rattle.std.proofs.Common.{Option, Some, get_or}
 use Rattle.std.specs.List.{slice_get, range_with_len}
@@ -19,7 +19,7 @@ at_first a = omega arith
 at_next : (a r : ℕ) → a + suc r ≡ a + 1 + r
 at_next a r = omega arith
 
--- a list is the table of what a function has at its places
+-- a list is the table of a function's values
 listed : (xs : List (Option ℕ)) (f : ℕ → Option ℕ) (a n : ℕ) → length xs ≡ n
     → ((r j : ℕ) → a + r ≡ j → f j ≡ flat (slice_get xs r)) → map f (range_with_len a n) ≡ xs
 listed [] f a zero e k = refl
@@ -49,7 +49,7 @@ named_is : (h : HeapState) (p p0 : PlainHeap) → Holds h p p0 → (t r : ℕ) �
 unfolding name_of
 named_is h p p0 k t r = ap flat ((k.invariant.words.registers t r).names)
 
--- the births that the registers of a heap name are those of each plain heap that it stands for
+-- the births to which the registers of a heap refer are those of each reference model that it represents
 pub held_is : (h : HeapState) (p p0 : PlainHeap) → Holds h p p0 → births_held h ≡ map registers_of p.threads
 unfolding births_held name_of
 held_is h p p0 k = rows_listed p.threads (births_named h) 0 (length h.threads) k.roots.threads by_thread
@@ -67,14 +67,14 @@ held_is h p p0 k = rows_listed p.threads (births_named h) 0 (length h.threads) k
         ap (births_named h) same ∙ listed t.registers (birth_named h i) 0 h.config.registers
         (k.roots.registers i t is) (λ r s e. by_register i r s t is e)
 
--- and so are those of one thread
+-- so are those of one thread
 pub row_is : (h : HeapState) (p p0 : PlainHeap) → Holds h p p0 → (t : ℕ)
     → row_of (births_held h) t ≡ births_in (slice_get p.threads t)
 row_is h p p0 k t = ap (λ (rows : List (List (Option ℕ))). get_or rows t []) (held_is h p p0 k) ∙ row_there p.threads t
 
--- ---- heaps, one behind the other
+-- ---- one heap after another
 
--- what stays unseen leaves all registers
+-- an unseen change leaves all registers
 pub unseen_rows : (h g : HeapState) → Promises h → StandsUnseen h g → births_held g ≡ births_held h
 unseen_rows h g k s =
     let y = s.same _ _ k.holds in
@@ -93,7 +93,7 @@ has_rows h t births e = record { known = λ p p0 k. sym (row_is h p p0 k t) ∙ 
 
 -- ---- portions
 
--- a portion has begun, whose thread finds what its seat knows
+-- a portion starts with the registers in its seat
 pub finds_own : (seat : ℕ) (token : TokenState) (s : KnowingState) (rows : List (List (Option ℕ))) (h : HeapState)
     (m : MutatorState) → record { thread = seat; registers = token.registers } ≡ s → token.thread ≡ seat
     → rows ≡ births_held h → Promises h → StandsUnseen h m.heap → row_of rows token.thread ≡ token.registers
@@ -106,7 +106,7 @@ finds_own seat token s rows h m is thread known k same found begins holds = subs
           (unseen_rows h m.heap k same ∙ sym known) ∙ ap (row_of rows) (sym thread) ∙ found);
     })
 
--- a portion of thread t that goes on changes no other's registers
+-- a portion of thread t that goes on changes no other thread's registers
 pub portion_rows : (rows : List (List (Option ℕ))) (m n : MutatorState) (t : ℕ) → rows ≡ births_held m.heap
     → HoldsInPortion m → m.thread ≡ t → GoesOn m n → ChangesOnly t rows (births_held n.heap)
 portion_rows rows m n t known holds thread on u apart =

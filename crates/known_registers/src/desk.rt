@@ -1,4 +1,4 @@
-//! What is under the lock.
+//! The data under the lock.
 
 ghost use Rattle.std.specs.Prelude.{◌≡◌, map, IfOk};
 ghost use Rattle.std.specs.List.{range_with_len};
@@ -16,7 +16,7 @@ use std::marker::{Brand, Model};
 use std::sync::Wait;
 use tokens::{BlankCell, CellName, KeeperToken, ThreadToken};
 
-/// A heap between portions, with the token that knows all registers.
+/// A heap between portions, with the token of all registers.
 #[derive(Drop)]
 pub(crate) struct Desk<N: CellName> {
     mutator: Mutator,
@@ -36,7 +36,7 @@ impl<N: CellName> Model for Desk<N> {
     ghost invariant = { λ d. d.keeper.rows ≡ births_held d.mutator.heap };
 }
 
-/// The keeper is told the registers of a heap, before any thread has a token.
+/// Returns the keeper's token of a heap, before any thread has a token.
 fn begun<N: CellName, R: Wait>(rt: &R, blank: BlankCell, mutator: &Mutator) -> KeeperToken<N>
     requires { blank ≡ N.table }
     ensures { result ≡ record { rows = births_held mutator.now.heap; dealt = 0 } }
@@ -44,7 +44,7 @@ fn begun<N: CellName, R: Wait>(rt: &R, blank: BlankCell, mutator: &Mutator) -> K
     KeeperToken::<N>::begin::<Brand, Mutator, R>(rt, blank, mutator)
 }
 
-/// The tokens are told the registers after a portion of a thread.
+/// Updates the tokens after a portion of a thread.
 fn told<N: CellName, R: Wait>(
     rt: &R,
     keeper: &mut KeeperToken<N>,
@@ -61,7 +61,7 @@ fn told<N: CellName, R: Wait>(
     keeper.tell::<Brand, Mutator, R>(rt, token, mutator)
 }
 
-/// Begins a portion of a seat's thread, which finds in its registers what the seat knows.
+/// Begins a portion of a seat's thread, whose registers are those in the seat.
 fn find_own<N: CellName, R: Wait>(
     rt: &R,
     mutator: &mut Mutator,
@@ -81,7 +81,7 @@ fn find_own<N: CellName, R: Wait>(
     KnowingSeat { seat, token }
 }
 
-/// Ends a portion of a seat's thread, which knows then what it leaves in its registers.
+/// Ends a portion of a seat's thread, and updates the registers in the seat.
 fn leave_own<N: CellName, R: Wait>(
     rt: &R,
     mutator: &mut Mutator,
@@ -101,7 +101,7 @@ fn leave_own<N: CellName, R: Wait>(
     KnowingSeat { seat, token }
 }
 
-/// A portion of a seat's thread: what `f` does.
+/// Does a portion of a seat's thread: calls `f`.
 pub(crate) fn run<N: CellName, R: Wait, T, F: FnOnce(&mut Mutator) -> T>(
     rt: &R,
     desk: &mut Desk<N>,
@@ -121,7 +121,7 @@ pub(crate) fn run<N: CellName, R: Wait, T, F: FnOnce(&mut Mutator) -> T>(
 }
 
 impl<N: CellName> Desk<N> {
-    /// A heap whose threads' registers the tokens know, though no thread has one yet.
+    /// Returns a heap with the keeper's token, before any thread has a token.
     pub(crate) fn new<R: Wait>(rt: &R, blank: BlankCell, mutator: Mutator) -> Desk<N>
         requires { blank ≡ N.table }
         ensures { result.dealt ≡ 0 }
@@ -135,7 +135,7 @@ impl<N: CellName> Desk<N> {
         self.mutator.into_heap()
     }
 
-    /// Does a part of a collection, while all threads are parked.
+    /// Does a part of a collection, while all threads are parked. Fails as `Mutator::collect_some` does.
     pub(crate) fn collect_some(
         &mut self,
         alloc: Global,
@@ -149,7 +149,7 @@ impl<N: CellName> Desk<N> {
         self.mutator.collect_some(alloc, seat, percent, budget)
     }
 
-    /// A token for each seat.
+    /// Returns the seats with a token for each. Fails only if out of memory.
     pub(crate) fn seat_all(
         &mut self,
         alloc: Global,

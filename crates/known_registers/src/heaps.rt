@@ -1,4 +1,4 @@
-//! A heap under a lock, and the portions of threads whose seats know their registers.
+//! A heap under a lock, and the portions of threads whose registers their seats have.
 
 ghost use Rattle.std.specs.Prelude.{◌≡◌};
 ghost use Rattle.std.specs.Fn.{FnOnceReturnsAtMut, FnOnceTakesAtMut};
@@ -13,15 +13,15 @@ use std::alloc::Global;
 use std::sync::{Mutex, Wait};
 use tokens::CellName;
 
-/// A heap that threads share, each of which finds in its registers at the beginning of a portion what it had left there
-/// at the end of its last one. `N` names the cell that ties the seats to the heap.
+/// A heap that threads share. Each thread's registers are at the beginning of a portion what they were at the end of
+/// its last one, by contract. `N` names the cell that relates the seats to the heap.
 #[derive(Drop)]
 pub struct KnownHeap<N: CellName> {
     desk: Mutex<Desk<N>>,
 }
 
 impl<N: CellName> KnownHeap<N> {
-    /// A heap under a lock.
+    /// Returns a heap under a lock.
     pub(crate) fn of(desk: Desk<N>) -> KnownHeap<N> {
         KnownHeap {
             desk: Mutex::new(desk),
@@ -37,8 +37,8 @@ impl<N: CellName> KnownHeap<N> {
         heap
     }
 
-    /// Does the next part of a collection between two portions, as `SharedHeap::collect_some` does it. It changes no
-    /// register of any thread.
+    /// Does the next part of a collection between two portions, and fails, as `SharedHeap::collect_some`. It changes
+    /// no register of any thread.
     pub fn collect_some<R: Wait>(
         &self,
         rt: &R,
@@ -53,9 +53,9 @@ impl<N: CellName> KnownHeap<N> {
         desk.collect_some(alloc, seat, percent, budget)
     }
 
-    /// Does a portion of a seat's thread: what `f` does. It begins with the registers that the seat knows, and the seat
-    /// that comes back knows those that `f` has left. `f` has to leave other threads' registers alone, as each call of
-    /// a mutator does.
+    /// Does a portion of a seat's thread: calls `f`. It begins with the registers in the seat; the seat that it
+    /// returns has those at the end of `f`. `f` must leave other threads' registers as they are, as each call of a
+    /// mutator does.
     pub fn with<R: Wait, T, F: FnOnce(&mut Mutator) -> T>(
         &self,
         rt: &R,

@@ -1,4 +1,5 @@
-//! Threads that share a heap, each of which knows at the beginning of a portion what it had left in its registers.
+//! Threads that share a heap, and whose registers are, by contract, at the beginning of a portion what they were at
+//! the end of the thread's last one.
 #![tactic(auto)]
 
 mod desk;

@@ -1,4 +1,4 @@
-//! A heap is shared: each of its seats gets a token.
+//! Sharing a heap: each of its seats gets a token.
 
 ghost use Rattle.std.specs.Prelude.{◌≡◌, map, IfOk};
 ghost use Rattle.std.specs.List.{range_with_len};
@@ -12,7 +12,7 @@ use std::alloc::{AllocError, Global};
 use std::sync::Wait;
 use tokens::{BlankCell, CellName, KeeperToken};
 
-/// A token for each seat.
+/// Returns the seats with a token for each. Fails only if out of memory.
 pub(crate) fn knowing_seats<N: CellName>(
     alloc: Global,
     keeper: &mut KeeperToken<N>,
@@ -32,20 +32,20 @@ pub(crate) fn knowing_seats<N: CellName>(
     Ok(knowing)
 }
 
-/// The seats of a heap that is shared.
+/// The seats of a shared heap.
 #[derive(Drop)]
 pub struct KnowingSeats<N: CellName> {
-    /// The seat of each thread of the heap, by their numbers.
+    /// The seat of each thread of the heap, by thread number.
     pub threads: Vec<KnowingSeat<N>>,
     /// The seat of the worker that collects.
     pub collector: CollectorSeat,
 }
 
 impl<N: CellName> KnownHeap<N> {
-    /// Shares a heap, and makes its seats, each of which knows what its thread has in its registers. Its threads are
-    /// parked, and stay so between portions. `blank` is the cell that `N` names.
+    /// Shares a heap, and makes its seats, each with its thread's registers. Its threads are parked, and stay so
+    /// between portions. `blank` is the cell that `N` names.
     ///
-    /// Fails with `Pending` if a thread is inside a load, and with `Memory`; the fault has the heap.
+    /// Fails with `Pending` if a thread is inside a load, and with `Memory` if out of memory; the fault has the heap.
     pub fn open<R: Wait>(
         rt: &R,
         alloc: Global,

@@ -1,4 +1,4 @@
-//! Seats that know their threads' registers.
+//! Seats with the contents of their threads' registers.
 
 ghost use Rattle.std.specs.Prelude.{◌≡◌};
 
@@ -6,7 +6,8 @@ use portions::ThreadSeat;
 use std::marker::Model;
 use tokens::{CellName, ThreadToken};
 
-/// The seat of a thread, which knows what it has left in its thread's registers.
+/// The seat of a thread, with the contents of the thread's registers at the end of its last portion, as a ghost
+/// value.
 #[derive(Drop)]
 pub struct KnowingSeat<N: CellName> {
     pub(crate) seat: ThreadSeat,

@@ -54,7 +54,7 @@ change_keeps w p p0 i t k l h b =
     subst (λ y. Invariant (set_barrier t l w) (record p { pending = y }) p0) (put_id p.pending t (Some h.pending) h.is)
     (set_barrier_keeps w p p0 i t l h.pending (record { barrier = b; kept = pending_kept w p t k h }))
 
--- without an NMT trap a crossed thread's word is clean
+-- if no NMT trap is due, a crossed thread's reference is clean
 pub clean_now : (w : AddressHeap) (t : ℕ) (v : Word) → nmt_trap_due w t v ≡ false → is_marking w.phase ≡ true
     → w.crossed t ≡ true → IsClean w v
 clean_now w t Null d m c a n e = cc
@@ -77,7 +77,7 @@ pub clean_scan : (w : AddressHeap) (p p0 : BirthHeap) → Invariant w p p0 → (
     → nmt_trap_due w t v ≡ false → w.phase ≡ Scanning → IsClean w v
 clean_scan w p p0 i t v d e = clean_now w t v d (ap is_marking e) (i.phases.crossed (ap is_crossing e) t)
 
--- the entry of a protected address that a kept birth's word names
+-- the entry of a protected address in a reference to a kept birth
 pub entry_of : (w : AddressHeap) (p p0 : BirthHeap) → Invariant w p p0 → (a : ℕ) (n : Bool) (x : Option ℕ)
     → names w (To a n) ≡ Some x → ((b : ℕ) → x ≡ Some b → IsKept w p b) → is_protected (w.page_state a) ≡ true
     → ((z : ℕ) × (w.side_entry a ≡ Planned z)) ⊎ ((z : ℕ) × (w.side_entry a ≡ Copied z))
@@ -99,7 +99,7 @@ entry_of w p p0 i a n x e k h = go (w.side_entry a) refl
     go (Planned z) c = inl (z, c)
     go (Copied z) c = inr (z, c)
 
--- a word that was moved stands for the same
+-- a corrected reference represents the same birth
 pub moved_good : (w : AddressHeap) (p p0 : BirthHeap) → Invariant w p p0 → (a n : ℕ) (b : Bool) (x : Option ℕ)
     → w.side_entry a ≡ Copied n → StandsFor w (To a b) x → StandsFor w (To n b) x
 moved_good w p p0 i a n b x f g =
@@ -114,7 +114,7 @@ moved_good w p p0 i a n b x f g =
       };
     }
 
--- Trap, at a GC trap whose object was copied
+-- Trap, for a GC trap whose object was copied
 pub trap_moved_keeps : (w : AddressHeap) (p p0 : BirthHeap) → Invariant w p p0
     → (t : ℕ) (k : OpenBarrier) (a n : ℕ) (b : Bool) → w.barrier t ≡ Some k → k.now ≡ To a b
     → w.side_entry a ≡ Copied n → Invariant (set_barrier t (record k { now = To n b }) w) p p0
@@ -128,7 +128,7 @@ trap_moved_keeps w p p0 i t k a n b e v f =
       running = h.barrier.running;
     })
 
--- Trap, at a GC trap whose object wasn't
+-- Trap, for a GC trap whose object wasn't copied
 pub trap_copied_keeps : (w : AddressHeap) (p p0 : BirthHeap) → Invariant w p p0
     → (t : ℕ) (k : OpenBarrier) (a n : ℕ) (b : Bool) (o : HeapObject) → w.barrier t ≡ Some k → k.now ≡ To a b
     → w.side_entry a ≡ Planned n → w.object_at a ≡ Some o → w.phase ≢ ProtectCrossing
@@ -137,7 +137,7 @@ trap_copied_keeps w p p0 i t k a n b o e v f h g =
     trap_moved_keeps (copy_object a n o w) p p0 (copy_object_keeps w p p0 i a n o
     (record { entry = f; here = h; phase = g })) t k a n b e v (put_same w.side_entry a (Copied n))
 
--- Trap, at an NMT trap
+-- Trap, for an NMT trap
 pub trap_marked_keeps : (w : AddressHeap) (p p0 : BirthHeap) → Invariant w p p0 → (t : ℕ) (k : OpenBarrier)
     → w.barrier t ≡ Some k → is_marking w.phase ≡ true
     → Invariant (set_barrier t (record k { now = marked_word w k.now }) (mark_word k.now w)) p p0
@@ -154,7 +154,7 @@ trap_marked_keeps w p p0 i t k e m =
       running = h'.barrier.running;
     })
 
--- Heal, where a global holds the word that was loaded
+-- Heal, if a global still has the reference that was loaded
 pub heal_global_keeps : (w : AddressHeap) (p p0 : BirthHeap) → Invariant w p p0 → (t : ℕ) (k : OpenBarrier) (g : ℕ)
     → w.barrier t ≡ Some k → k.place ≡ AtGlobal g → w.global g ≡ k.raw → nmt_trap_due w t k.now ≡ false
     → Invariant (set_barrier t (record k { healed = true }) (set_global g k.now w)) p p0
@@ -178,7 +178,7 @@ heal_global_keeps w p p0 i t k g e l r d =
       running = h'.barrier.running;
     })
 
--- Heal, where a field holds it
+-- Heal, if a field still has it
 pub heal_field_keeps : (w : AddressHeap) (p p0 : BirthHeap) → Invariant w p p0
     → (t : ℕ) (k : OpenBarrier) (a j : ℕ) (o : HeapObject) → w.barrier t ≡ Some k → k.place ≡ AtField a j
     → w.object_at a ≡ Some o → field o j ≡ k.raw → nmt_trap_due w t k.now ≡ false
@@ -211,7 +211,7 @@ heal_field_keeps w p p0 i t k a j o e l f r d =
       running = h'.barrier.running;
     })
 
--- Heal, where the place holds another word
+-- Heal, if the place has another reference
 pub heal_changed_keeps : (w : AddressHeap) (p p0 : BirthHeap) → Invariant w p p0 → (t : ℕ) (k : OpenBarrier)
     → w.barrier t ≡ Some k → Invariant (set_barrier t (record k { healed = true }) w) p p0
 heal_changed_keeps w p p0 i t k e =
@@ -238,7 +238,7 @@ finish_keeps w p p0 i t k e d =
       clean = clean_now w t k.now d;
     })))
 
--- Scrub, where the object was copied
+-- Scrub, if the object was copied
 pub scrub_moved_keeps : (w : AddressHeap) (p p0 : BirthHeap) → Invariant w p p0 → (t r a n : ℕ) (b : Bool)
     → w.barrier t ≡ None → w.register t r ≡ To a b → w.side_entry a ≡ Copied n
     → Invariant (set_register t r (To n b) w) p p0
@@ -249,7 +249,7 @@ scrub_moved_keeps w p p0 i t r a n b e v f =
     (subst (λ v. StandsFor w v (p.register t r)) v (i.words.registers t r))) (register_kept w p t r)
     (λ m c y l h. i.marks.registers t r m c a l (v ∙ (let z = h in cc))))
 
--- and where it wasn't
+-- Scrub, if it wasn't
 pub scrub_copied_keeps : (w : AddressHeap) (p p0 : BirthHeap) → Invariant w p p0
     → (t r a n : ℕ) (b : Bool) (o : HeapObject) → w.barrier t ≡ None → w.register t r ≡ To a b
     → w.side_entry a ≡ Planned n → w.object_at a ≡ Some o → w.phase ≢ ProtectCrossing

@@ -1,4 +1,4 @@
--- To copy a planned object keeps the invariant.
+-- Copying a planned object keeps the invariant.
 use Rattle.std.proofs.Common.{◌≡◌, ◌≢◌, ◌⊎◌, ◌≤◌, ◌<◌, inl, inr, ℕ, Bool, true}
 use Rattle.std.proofs.Common.{false, Option, Some, None, sym, ◌∙◌, ap, arith}
 use Rattle.std.proofs.lemmas.Bool.{cases_eq}
@@ -22,7 +22,7 @@ pub record MayCopy (w : AddressHeap) (a n : ℕ) (o : HeapObject) : Type 0 where
 
 module _ (w : AddressHeap) (p p0 : BirthHeap) (i : Invariant w p p0) (a n : ℕ) (o : HeapObject)
     (m : MayCopy w a n o) where
-  -- what a word names is named still
+  -- a reference represents the same birth
   pub word : (v : Word) (x : Option ℕ) → names w v ≡ Some x → names (copy_object a n o w) v ≡ Some x
   word Null x e = e
   word (To y b) x e = there y b x e

@@ -1,4 +1,4 @@
--- What a word names is copied where it is planned: either nothing changes, or one object is copied.
+-- The object of a reference is copied if it is planned and uncopied: either nothing changes, or one object is copied.
 use Rattle.std.proofs.Common.{◌≡◌, ◌≢◌, ℕ, Bool, true, Option, Some, refl, sym, ap, ap₂, subst}
 use Rattle.model.specs.declared.records.Phase.TheVariants.{ProtectCrossing}
 use Rattle.model.specs.Phases.{is_marking}
@@ -8,12 +8,12 @@ use Rattle.laws.specs.Invariant.{Invariant}
 use Rattle.laws.specs.Edits.{copy_object, copy_word, objects_by, entries_by}
 use Rattle.laws.proofs.CopyObject.{MayCopy, word, marked}
 
--- no object has still to be copied where a word leads
+-- the object of a reference needn't be copied
 abbrev pub IsSettled : AddressHeap → Word → Type 0
 IsSettled w Null = Unit {0}
 IsSettled w (To a b) = (n : ℕ) → w.side_entry a ≢ Planned n
 
--- nothing changes where no copy is due
+-- nothing changes if no copy is due
 pub copy_stays : (w : AddressHeap) (v : Word) → IsSettled w v → copy_word v w ≡ w
 copy_stays w Null h = refl
 copy_stays w (To a b) h = by_entry w a (w.side_entry a) (w.object_at a) h
@@ -24,7 +24,7 @@ copy_stays w (To a b) h = by_entry w a (w.side_entry a) (w.object_at a) h
     by_entry w a (Copied n) o h = refl
     by_entry w a (Planned n) o h = absurd (h n refl)
 
--- where one is due, it is made
+-- a copy that is due is made
 pub copy_moves : (w : AddressHeap) (a n : ℕ) (b : Bool) (o : HeapObject) → w.side_entry a ≡ Planned n
     → w.object_at a ≡ Some o → copy_word (To a b) w ≡ copy_object a n o w
 copy_moves w a n b o e h = ap₂ (λ f q. record w {
@@ -32,7 +32,7 @@ copy_moves w a n b o e h = ap₂ (λ f q. record w {
   side_entry = entries_by f a w.side_entry;
 }) e h
 
--- what holds either way
+-- a property that holds in both cases
 pub by_copy : (w : AddressHeap) (p p0 : BirthHeap) → Invariant w p p0 → (v : Word) (P : AddressHeap → Type 0)
     → (IsSettled w v → P w)
     → ((a n : ℕ) (b : Bool) (o : HeapObject) → v ≡ To a b → w.side_entry a ≡ Planned n → w.object_at a ≡ Some o
@@ -57,7 +57,7 @@ module _ (w : AddressHeap) (p p0 : BirthHeap) (i : Invariant w p p0) (m : is_mar
   may_copy a n o e h =
       record { entry = e; here = h; phase = λ (y : w.phase ≡ ProtectCrossing). (let z = ap is_marking y in cc) }
 
-  -- every word names what it named
+  -- every reference represents the same birth
   pub copied_names : (u : Word) (x : Option ℕ) → names w u ≡ Some x → names (copy_word v w) u ≡ Some x
   copied_names u x named = by_copy w p p0 i v (λ z. names z u ≡ Some x) (λ _. named)
       (λ a n b o is e h. word w p p0 i a n o (may_copy a n o e h) u x named)

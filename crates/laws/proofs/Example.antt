@@ -1,4 +1,4 @@
--- A mark that ends: thread 0 crosses, with registers that are null, and nothing is left to be scanned.
+-- A mark that ends: thread 0 crosses, with registers that are null, and nothing is grey.
 use Rattle.std.proofs.Common.{◌≡◌, ◌≢◌, inl, inr, ℕ, Bool, true, false, nat_lt, refl, arith}
 use Rattle.std.proofs.lemmas.Bool.Decides.{nat_tests}
 use Rattle.model.specs.declared.records.Phase.TheVariants.{Scanning}
@@ -9,7 +9,7 @@ use Rattle.laws.specs.Transitions.{StartMark, CrossMark, End, Then}
 use Rattle.laws.specs.Promises.{MarksCanEnd}
 use Rattle.laws.proofs.Basics.{put_all}
 
--- true of the numbers that are no thread's: 0 is the only thread
+-- true for numbers that no thread has: 0 is the only thread
 abbrev no_thread : ℕ → Bool
 no_thread t = nat_lt 0 t
 

@@ -1,4 +1,4 @@
--- To mark an object keeps the invariant.
+-- Marking an object keeps the invariant.
 use Rattle.std.proofs.Common.{◌≡◌, ◌≢◌, ◌⊎◌, inl, inr, ℕ, Bool, true, false}
 use Rattle.std.proofs.Common.{cond, Option, Some, refl, sym, ◌∙◌, ap, subst}
 use Rattle.std.proofs.lemmas.Bool.{cases_Bool}
@@ -9,11 +9,11 @@ use Rattle.laws.specs.BirthHeap.{BirthHeap, ref, Start, Next}
 use Rattle.laws.specs.Invariant.{IsSeed, IsKept, HasCurrent, StandsFor, IsClean, Invariant, IsPlace}
 use Rattle.laws.proofs.Basics.{reached, put_all, put_both, put_after, put_id, barrier_map, current_there}
 
--- the object at an address is marked, and its todo bit becomes b
+-- the object at an address is marked, and its grey bit becomes b
 abbrev pub mark_with_todo : ℕ → Bool → AddressHeap → AddressHeap
 mark_with_todo a b w = record w { marked = put w.marked a true; todo = put w.todo a b }
 
--- the object at an address is marked: where it wasn't, it has still to be scanned (the paper's Mark phase)
+-- the object at an address is marked: if it wasn't, it is grey
 abbrev pub mark_at : ℕ → AddressHeap → AddressHeap
 mark_at a w = mark_with_todo a (cond (w.marked a) (w.todo a) true) w
 
@@ -114,7 +114,7 @@ module _ (w : AddressHeap) (p p0 : BirthHeap) (i : Invariant w p p0) (a : ℕ) (
     later = i.later;
   }
 
-  -- where it was marked, nothing changes
+  -- if it was marked, nothing changes
   no_change : w.marked a ≡ true → mark_at a w ≡ w
   no_change e = λ x. record w {
     marked = put_id w.marked a true e x;

@@ -1,4 +1,5 @@
--- What the steps need of the invariant: what a usable word names, what a kept object holds, and how a word is marked.
+-- What the steps need of the invariant: the object of a usable reference, the contents of a kept object, and the
+-- effect of marking a reference.
 use Rattle.std.proofs.Common.{◌≡◌, ◌≢◌, ◌⊎◌, ◌<◌, inl, inr, ℕ, Bool, true, false, Option, Some, None, List}
 use Rattle.std.proofs.Common.{length, get_or, set, refl, sym, ◌∙◌, ap, subst, get_or-set_same, get_or-set_other}
 use Rattle.std.proofs.lemmas.Bool.{cases_eq}
@@ -18,7 +19,7 @@ use Rattle.laws.proofs.MarkObject.{mark_keeps}
 use Rattle.laws.proofs.CopyObject.{copy_object_keeps, kept_back, word}
 use Rattle.laws.proofs.CopyWord.{IsSettled, by_copy, may_copy}
 
--- what a word that isn't null names
+-- the object of a reference that isn't null
 pub record NamedObject (w : AddressHeap) (a : ℕ) (x : Option ℕ) : Type 0 where
   pub object : HeapObject
   pub here : current w a ≡ Some object
@@ -54,7 +55,7 @@ register_kept w p t r b e = Start b (inl (InRegister t r e))
 pub global_kept : (w : AddressHeap) (p : BirthHeap) (g b : ℕ) → p.global g ≡ Some b → IsKept w p b
 global_kept w p g b e = Start b (inl (InGlobal g e))
 
--- a kept object, where it is
+-- a kept object at its address
 pub record At (w : AddressHeap) (p : BirthHeap) (a : ℕ) (o : HeapObject) : Type 0 where
   pub live : w.page_state a ≡ Closed → w.live a ≡ true
   pub entry : w.page_state a ≡ From → (n : ℕ) × (w.side_entry a ≡ Planned n)
@@ -80,7 +81,7 @@ at w p p0 i a o h k =
       refs = λ j. subst (λ q. StandsFor w (field q j) (ref p o.birth j)) f (s.refs j);
     }
 
--- a kept object that isn't to be copied is on no protected page
+-- a kept object that isn't planned is on no protected page
 pub kept_unprotected : (w : AddressHeap) (p p0 : BirthHeap) → Invariant w p p0 → (a : ℕ) (o : HeapObject)
     → current w a ≡ Some o → IsKept w p o.birth → ((n : ℕ) → w.side_entry a ≢ Planned n)
     → is_protected (w.page_state a) ≡ false
@@ -93,12 +94,12 @@ kept_unprotected w p p0 i a o h k f = go (w.page_state a) refl
     go From e = let n = (at w p p0 i a o h k).entry e in absurd (f n.0 n.1)
     go Gone e = let z = i.objects.with_memory a o (current_there w a o h) in let y = ap has_memory e in cc
 
--- in a scan every register is clean
+-- while scanning, every register is clean
 pub clean_register : (w : AddressHeap) (p p0 : BirthHeap) → Invariant w p p0 → w.phase ≡ Scanning → (t r : ℕ)
     → IsClean w (w.register t r)
 clean_register w p p0 i e t r = i.marks.registers t r (ap is_marking e) (i.phases.crossed (ap is_crossing e) t)
 
--- no object has still to be copied where an address resolves to
+-- an object at an address after forwarding needn't be copied
 settled_there : (w : AddressHeap) (p p0 : BirthHeap) → Invariant w p p0 → (a : ℕ) (b : Bool) → IsSettled w (To a b)
     → (n : ℕ) → w.side_entry (resolve w a) ≢ Planned n
 settled_there w p p0 i a b h = go (w.side_entry a) refl
@@ -108,7 +109,7 @@ settled_there w p p0 i a b h = go (w.side_entry a) refl
     go NoEntry e n k = h n k
     go (Planned m) e n k = h n k
 
--- a word is marked where its object is now, in a heap in which that isn't to be copied
+-- the effect of marking a reference, in a heap in which its object isn't planned
 pub record MarkedNow (w : AddressHeap) (p p0 : BirthHeap) (v : Word) (x : Option ℕ) : Type 0 where
   pub inv : Invariant (set_mark v w) p p0
   pub good : StandsFor (set_mark v w) (clean_word w v) x
@@ -146,7 +147,7 @@ set_mark_keeps w p p0 i m (To a n) x e k f =
       clean = λ y b h. (let z = h in cc);
     }
 
--- a word is marked, its object copied first where it wasn't
+-- the effect of marking a reference, whose object is copied first if it is planned
 pub record MarkedWord (w : AddressHeap) (p p0 : BirthHeap) (v : Word) (x : Option ℕ) : Type 0 where
   pub inv : Invariant (mark_word v w) p p0
   pub good : StandsFor (mark_word v w) (marked_word w v) x

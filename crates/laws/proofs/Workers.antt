@@ -100,7 +100,7 @@ scan_field_keeps w p p0 i k s o e f h l =
     below n z (inl y) c = subst (IsClean w) (sym y.1) c
     below n z (inr y) c = subst (IsClean w) (sym y.1) (i.marks.passed k s f o n h (let t = y.0 in omega arith))
 
--- ScanField, where no field is left
+-- ScanField, if no field is left
 pub scan_end_keeps : (w : AddressHeap) (p p0 : BirthHeap) → Invariant w p p0
     → (k : ℕ) (s : WorkerScan) (o : HeapObject) → w.phase ≡ Scanning → w.scan k ≡ Some s
     → w.object_at s.address ≡ Some o → length o.refs ≤ s.next → Invariant (end_scan k s.address w) p p0
@@ -146,7 +146,7 @@ mark_register_keeps w p p0 i t r m e =
     (set_register_keeps (mark_word v w) p p0 q.inv t r (marked_word w v) (p.register t r) e q.good
     (register_kept (mark_word v w) p t r) (λ _ _. q.clean))
 
--- what is so after the registers below n are marked
+-- what holds after the registers below n are marked
 pub record CrossedBelow (w : AddressHeap) (p p0 : BirthHeap) (t n : ℕ) (w' : AddressHeap) : Type 0 where
   pub inv : Invariant w' p p0
   pub phase : w'.phase ≡ w.phase

@@ -1,7 +1,7 @@
--- The plain heap, as functions of births: it never moves or frees an object. What can be reached in it.
+-- The reference model, as functions of births: it never moves or frees an object. What is reachable in it.
 use Rattle.std.specs.Prelude.{◌≡◌, ℕ, Option, Some, None, List, get_or}
 
--- the plain heap: births, of which each has a layout, references to births and data; registers, pending loads, globals
+-- the reference model: births, each with a layout, references to births and data; registers, pending loads, globals
 pub record BirthHeap : Type 0 where
   pub births : ℕ  -- how many objects were born
   pub layout : ℕ → ℕ  -- by birth: the number of its layout
@@ -11,7 +11,7 @@ pub record BirthHeap : Type 0 where
   pub pending : ℕ → Option (ℕ × Option ℕ)  -- by thread: the register that a load is for, and what it loads
   pub global : ℕ → Option ℕ  -- by number: a birth or none
 
--- the reference of a number in a birth's object, none where there is no such reference
+-- reference i of a birth; none if there is no such reference
 abbrev pub ref : BirthHeap → ℕ → ℕ → Option ℕ
 ref p b i = get_or (p.refs b) i None
 
@@ -22,7 +22,7 @@ pub data IsRootIn (register : ℕ → ℕ → Option ℕ) (pending : ℕ → Opt
   InPending : (t r : ℕ) → pending t ≡ Some (r, Some b) → IsRootIn register pending global b
   InGlobal : (g : ℕ) → global g ≡ Some b → IsRootIn register pending global b
 
--- a birth is in a register, a pending load or a global of the plain heap
+-- a birth is in a register, a pending load or a global of the reference model
 abbrev pub IsRoot : BirthHeap → ℕ → Type 0
 IsRoot p = IsRootIn p.register p.pending p.global
 

@@ -1,6 +1,6 @@
--- What an accepted step does to the heap by addresses and to the plain heap. The premises are the tests of the step,
--- as far as the invariant needs them: a step that tests more is a transition too. A step that changes neither heap,
--- such as a read of a datum or a buffer given back, is none.
+-- The effect of an accepted step on the address-level model and on the reference model. The premises are those tests
+-- of the step that the invariant needs: a step that tests more is a transition too. A step that changes neither
+-- model, such as reading a datum or giving a buffer back, has none.
 use Rattle.std.specs.Prelude.{◌≡◌, ◌≢◌, ◌⊎◌, ◌<◌, ◌≤◌, ℕ, Bool, true, false, Option, Some, None, List, length, get_or}
 use Rattle.model.specs.declared.records.Phase.{Phase}
 use Rattle.model.specs.declared.records.Phase.TheVariants.{Idle, MarkCrossing, Scanning, ProtectCrossing, Relocating}
@@ -19,7 +19,7 @@ use Rattle.laws.specs.Effects.{plain_store, plain_datum, plain_load_field, plain
 use Rattle.laws.specs.Effects.{set_register, with_field, with_datum, new_barrier, nmt_trap_due, mark_registers}
 use Rattle.laws.specs.Effects.{scan_field}
 
--- the address of a usable register: its page isn't protected, or the thread has still to cross (ours)
+-- an address that thread t may use: its page isn't protected, or the thread hasn't crossed
 abbrev pub IsUsable : AddressHeap → ℕ → ℕ → Type 0
 IsUsable w t a = is_protected (w.page_state a) ≡ true → (w.phase ≡ ProtectCrossing) × (w.crossed t ≡ false)
 
@@ -30,8 +30,7 @@ pub record Uses (w : AddressHeap) (t r a : ℕ) (o : HeapObject) : Type 0 where
   pub usable : IsUsable w t a
   pub here : w.object_at a ≡ Some o
 
--- f is the phase after thread t crosses: the same where another has still to cross, and the next one where t is the
--- last (the paper's checkpoints)
+-- f is the phase after thread t crosses: the same if another hasn't crossed, and the next one if t is the last
 abbrev pub IsPhaseAfter : AddressHeap → ℕ → Phase → Phase → Phase → Type 0
 IsPhaseAfter w t now next f =
     ((f ≡ now) × (u : ℕ) × (u ≢ t) × (w.crossed u ≡ false))
@@ -42,22 +41,21 @@ pub record IsScanning (w : AddressHeap) : Type 0 where
   pub runs : is_marking w.phase ≡ true
   pub crossed : (t : ℕ) → w.crossed t ≡ true
 
--- a mark may end: nothing is left to be scanned or marked, and no barrier is open (ours)
+-- a mark may end: nothing is grey, and no barrier is open
 pub record MayEndMark (w : AddressHeap) : Type 0 where
   pub scans : IsScanning w
   pub todo : (a : ℕ) → w.todo a ≡ false
   pub globals : (g : ℕ) → w.global_todo g ≡ false
   pub barriers : (t : ℕ) → w.barrier t ≡ None
 
--- a mark may start: no mark runs, and no page is being protected; c is true of the numbers that are no thread's
+-- a mark may start: no mark runs, and no page is being protected; c is true for numbers that no thread has
 pub record MayStartMark (w : AddressHeap) (c : ℕ → Bool) : Type 0 where
   pub phase : (w.phase ≡ Idle) ⊎ (w.phase ≡ Relocating)
   pub waits : (t : ℕ) × (c t ≡ false)
   pub no_thread : (t r : ℕ) → c t ≡ true → w.register t r ≡ Null
 
--- pages may be protected (the paper's Relocate phase), closed ones alone (ours), with a plan that has a free place of
--- its own for each of their live objects, on pages that open for it (ours); c is true of the numbers that are no
--- thread's
+-- closed pages may be protected, with a plan that has a free place of its own for each of their live objects, on
+-- pages that open for it; c is true for numbers that no thread has
 pub record MayProtect (w : AddressHeap) (states : ℕ → PageState) (entries : ℕ → SideEntry) (c : ℕ → Bool) : Type 0 where
   pub phase : w.phase ≡ Idle
   pub changes : (a : ℕ)
@@ -74,16 +72,15 @@ pub record MayProtect (w : AddressHeap) (states : ℕ → PageState) (entries : 
   pub waits : (t : ℕ) × (c t ≡ false)
   pub no_thread : (t : ℕ) → c t ≡ true → w.barrier t ≡ None
 
--- a protected page may give its memory up: all its planned objects are copied, and no thread has still to cross (the
--- paper's Relocate phase: memory is free before the references are corrected)
+-- a protected page may be released: all its planned objects are copied, and all threads have crossed
 pub record MayRelease (w : AddressHeap) (inside : ℕ → Bool) : Type 0 where
   pub from : (a : ℕ) → inside a ≡ true → w.page_state a ≡ From
   pub copied : (a n : ℕ) → inside a ≡ true → w.side_entry a ≢ Planned n
   pub crossed : w.phase ≡ ProtectCrossing → (t : ℕ) → w.crossed t ≡ true
   pub busy : w.phase ≢ Idle
 
--- object o may be born at a: the place is free, on an open page and in no plan, and all its references are null; xs and
--- ds are the references and data of the new birth, l its layout
+-- object o may be born at a: the place is free, on an open page and in no plan, and all its references are null; xs
+-- and ds are the references and data of the new birth, l its layout
 pub record MayBeBorn (w : AddressHeap) (a : ℕ) (o : HeapObject) (t l : ℕ) (xs : List (Option ℕ)) (ds : List ℕ)
     : Type 0 where
   pub free : w.object_at a ≡ None
@@ -97,12 +94,13 @@ pub record MayBeBorn (w : AddressHeap) (a : ℕ) (o : HeapObject) (t l : ℕ) (x
   pub data_words : o.data_words ≡ ds
   pub barrier : w.barrier t ≡ None
 
--- what the steps do: from a heap, its plain heap and the plain heap as the last mark began, to those after the step
+-- the effects of steps: from an address-level model, its reference model, and the reference model when the last mark
+-- started, to those after the step
 pub data Transition (w : AddressHeap) (p p0 : BirthHeap) : AddressHeap → BirthHeap → BirthHeap → Type 0 where
-  -- a thread takes a buffer on a fresh page, which opens; inside is true of the page's addresses
+  -- a thread takes a buffer on a fresh page, which opens; inside is true for the page's addresses
   TakeFresh : (inside : ℕ → Bool) → ((a : ℕ) → inside a ≡ true → w.page_state a ≡ Unused)
       → Transition w p p0 (open_page inside w) p p0
-  -- thread t makes an object
+  -- thread t allocates an object
   New : (a : ℕ) (o : HeapObject) (t r l : ℕ) (xs : List (Option ℕ)) (ds : List ℕ) → MayBeBorn w a o t l xs ds
       → Transition w p p0 (add_object a o t r w) (plain_born l xs ds t r p) p0
   -- thread t begins to load field j of the object in register r, for register d
@@ -112,32 +110,30 @@ pub data Transition (w : AddressHeap) (p p0 : BirthHeap) : AddressHeap → Birth
   LoadGlobal : (t d g : ℕ) → w.is_global g ≡ true → w.parked t ≡ false
       → Transition w p p0 (set_barrier t (new_barrier d (AtGlobal g) (w.global g)) w) (plain_set_pending t
       (d, p.global g) p) p0
-  -- a GC trap, whose object was copied: the word is forwarded (the paper's read barrier)
+  -- a GC trap, whose object was copied: the reference is forwarded
   TrapMoved : (t : ℕ) (k : OpenBarrier) (a n : ℕ) (b : Bool) → w.barrier t ≡ Some k → k.now ≡ To a b
       → w.side_entry a ≡ Copied n
       → Transition w p p0 (set_barrier t (record k { now = To n b }) w) p p0
-  -- a GC trap, whose object wasn't copied: the word is forwarded (the paper's read barrier); that the thread copies the
-  -- object itself, and once all have crossed, is ours
+  -- a GC trap, whose object wasn't copied: the thread copies it once all threads have crossed, and the reference is
+  -- forwarded
   TrapCopied : (t : ℕ) (k : OpenBarrier) (a n : ℕ) (b : Bool) (o : HeapObject) → w.barrier t ≡ Some k → k.now ≡ To a b
       → w.side_entry a ≡ Planned n → w.object_at a ≡ Some o → w.phase ≢ ProtectCrossing
       → Transition w p p0 (set_barrier t (record k { now = To n b }) (copy_object a n o w)) p p0
-  -- an NMT trap: the object is marked, and the word becomes clean (the paper's read barrier)
+  -- an NMT trap: the object is marked, and the reference becomes clean
   TrapMarked : (t : ℕ) (k : OpenBarrier) → w.barrier t ≡ Some k → is_marking w.phase ≡ true
       → Transition w p p0 (set_barrier t (record k { now = marked_word w k.now }) (mark_word k.now w)) p p0
-  -- the repaired word is written back to its global (the paper's read barrier), where that still holds what was
-  -- loaded (ours)
+  -- the corrected reference is written back to its global, if that still has what was loaded
   HealGlobal : (t : ℕ) (k : OpenBarrier) (g : ℕ) → w.barrier t ≡ Some k → k.place ≡ AtGlobal g → w.global g ≡ k.raw
       → nmt_trap_due w t k.now ≡ false
       → Transition w p p0 (set_barrier t (record k { healed = true }) (set_global g k.now w)) p p0
-  -- the repaired word is written back to its field (the paper's read barrier), where that still holds what was loaded
-  -- (ours)
+  -- the corrected reference is written back to its field, if that still has what was loaded
   HealField : (t : ℕ) (k : OpenBarrier) (a j : ℕ) (o : HeapObject) → w.barrier t ≡ Some k → k.place ≡ AtField a j
       → w.object_at a ≡ Some o → field o j ≡ k.raw → nmt_trap_due w t k.now ≡ false
       → Transition w p p0 (set_barrier t (record k { healed = true }) (set_object a (with_field o j k.now) w)) p p0
-  -- the place holds another word by now, and nothing is written (ours)
+  -- the place has another reference by now, and nothing is written
   HealChanged : (t : ℕ) (k : OpenBarrier) → w.barrier t ≡ Some k
       → Transition w p p0 (set_barrier t (record k { healed = true }) w) p p0
-  -- a load ends, and its register gets the repaired word
+  -- a load ends, and its register gets the corrected reference
   Finish : (t : ℕ) (k : OpenBarrier) → w.barrier t ≡ Some k → nmt_trap_due w t k.now ≡ false
       → Transition w p p0 (end_load t k.target k.now w) (plain_finish t p) p0
   -- thread t stores register s in field j of the object in register r
@@ -155,65 +151,64 @@ pub data Transition (w : AddressHeap) (p p0 : BirthHeap) : AddressHeap → Birth
   -- thread t clears register r
   ClearReg : (t r : ℕ) → w.barrier t ≡ None
       → Transition w p p0 (set_register t r Null w) (plain_set_register t r None p) p0
-  -- thread t crosses the mark checkpoint: its registers, of which n are in use, are marked (the paper's checkpoints)
+  -- thread t crosses the mark's checkpoint: its registers, of which n are in use, are marked
   CrossMark : (t n : ℕ) (f : Phase) → w.phase ≡ MarkCrossing → w.barrier t ≡ None
       → ((r : ℕ) → n ≤ r → w.register t r ≡ Null) → IsPhaseAfter w t MarkCrossing Scanning f
       → Transition w p p0 (cross_checkpoint t f (mark_registers t n w)) p p0
-  -- the collector crosses the mark checkpoint for a thread that sleeps (the paper's checkpoints)
+  -- a worker crosses the mark's checkpoint for a parked thread
   CrossMarkFor : (t n : ℕ) (f : Phase) → w.phase ≡ MarkCrossing → w.parked t ≡ true
       → ((r : ℕ) → n ≤ r → w.register t r ≡ Null) → IsPhaseAfter w t MarkCrossing Scanning f
       → Transition w p p0 (cross_checkpoint t f (mark_registers t n w)) p p0
-  -- the collector crosses the protect checkpoint for a thread that sleeps (the paper's checkpoints)
+  -- a worker crosses the protect checkpoint for a parked thread
   CrossProtectFor : (t : ℕ) (f : Phase) → w.phase ≡ ProtectCrossing → w.parked t ≡ true
       → IsPhaseAfter w t ProtectCrossing Relocating f
       → Transition w p p0 (cross_checkpoint t f w) p p0
-  -- thread t crosses the protect checkpoint; its registers stay as they are (ours)
+  -- thread t crosses the protect checkpoint; its registers stay as they are
   CrossProtect : (t : ℕ) (f : Phase) → w.phase ≡ ProtectCrossing → w.barrier t ≡ None
       → IsPhaseAfter w t ProtectCrossing Relocating f
       → Transition w p p0 (cross_checkpoint t f w) p p0
-  -- a register that names an object that was copied is forwarded (ours)
+  -- a register whose object was copied is forwarded
   ScrubMoved : (t r a n : ℕ) (b : Bool) → w.barrier t ≡ None → w.register t r ≡ To a b → w.side_entry a ≡ Copied n
       → Transition w p p0 (set_register t r (To n b) w) p p0
-  -- a register that names an object that wasn't copied: it is copied, once all have crossed, and the register
-  -- forwarded (ours)
+  -- a register whose object wasn't copied is forwarded once all threads have crossed; the object is copied first
   ScrubCopied : (t r a n : ℕ) (b : Bool) (o : HeapObject) → w.barrier t ≡ None → w.register t r ≡ To a b
       → w.side_entry a ≡ Planned n → w.object_at a ≡ Some o → w.phase ≢ ProtectCrossing
       → Transition w p p0 (set_register t r (To n b) (copy_object a n o w)) p p0
-  -- thread t goes to sleep, or wakes
+  -- thread t is parked, or runs again
   Park : (t : ℕ) (b : Bool) → w.barrier t ≡ None
       → Transition w p p0 (set_parked t b w) p p0
-  -- a mark starts, and the plain heap of this moment is kept (the paper's Mark phase)
+  -- a mark starts, and the reference model of this moment is kept
   StartMark : (c : ℕ → Bool) → MayStartMark w c
       → Transition w p p0 (start_mark c w) p p
-  -- worker k takes an object that has still to be scanned, and that no other worker has (the paper's Mark phase)
+  -- worker k takes a grey object that no other worker has
   Pick : (k a : ℕ) → IsScanning w → w.todo a ≡ true → ((l : ℕ) (z : WorkerScan) → w.scan l ≡ Some z → z.address ≢ a)
       → Transition w p p0 (set_scan k (Some (record { address = a; next = 0 })) w) p p0
-  -- worker k marks the next field of its object (the paper's Mark phase)
+  -- worker k marks the next field of its object
   ScanField : (k : ℕ) (s : WorkerScan) (o : HeapObject) → IsScanning w → w.scan k ≡ Some s
       → w.object_at s.address ≡ Some o → s.next < length o.refs
       → Transition w p p0 (scan_field k s o w) p p0
-  -- worker k has passed the last field of its object (the paper's Mark phase)
+  -- worker k has passed the last field of its object
   ScanEnd : (k : ℕ) (s : WorkerScan) (o : HeapObject) → IsScanning w → w.scan k ≡ Some s
       → w.object_at s.address ≡ Some o → length o.refs ≤ s.next
       → Transition w p p0 (end_scan k s.address w) p p0
-  -- a worker marks global g, and writes it back clean (the paper's Mark phase)
+  -- a worker marks global g, and writes it back clean
   ScanGlobal : (g : ℕ) → w.is_global g ≡ true → IsScanning w
       → Transition w p p0 (end_global_scan g (set_global g (marked_word w (w.global g)) (mark_word
       (w.global g) w))) p p0
-  -- a mark ends (ours); lent is true of the addresses of pages in which a buffer is lent
+  -- a mark ends; lent is true for the addresses of pages in which a buffer is lent
   EndMark : (lent : ℕ → Bool) → MayEndMark w
       → Transition w p p0 (end_mark lent w) p p0
-  -- pages are protected (the paper's Relocate phase)
+  -- pages are protected
   Protect : (states : ℕ → PageState) (entries : ℕ → SideEntry) (c : ℕ → Bool) → MayProtect w states entries c
       → Transition w p p0 (protect_pages states entries c w) p p0
-  -- a worker copies a planned object, once all have crossed (the paper's Relocate phase; that it waits is ours)
+  -- a worker copies a planned object, once all threads have crossed
   Copy : (a n : ℕ) (o : HeapObject) → w.phase ≢ ProtectCrossing → w.side_entry a ≡ Planned n → w.object_at a ≡ Some o
       → Transition w p p0 (copy_object a n o w) p p0
-  -- a page gives its memory up; inside is true of its addresses (the paper's Relocate phase)
+  -- a page is released; inside is true for its addresses
   Release : (inside : ℕ → Bool) → MayRelease w inside
       → Transition w p p0 (release_page inside w) p p0
 
--- a list of transitions, each from the heaps that the one before leads to
+-- a list of transitions, each from the models to which the one before leads
 pub data Run : AddressHeap → BirthHeap → BirthHeap → AddressHeap → BirthHeap → BirthHeap → Type 0 where
   End : (w : AddressHeap) (p p0 : BirthHeap) → Run w p p0 w p p0
   Then : (w : AddressHeap) (p p0 : BirthHeap) (v : AddressHeap) (q q0 : BirthHeap) (u : AddressHeap) (r r0 : BirthHeap)

@@ -1,4 +1,4 @@
--- A header's bits are read back as that header, and the header that is read has the bits that it is read from.
+-- Reading a header's bits returns the header, and a header that was read has the bits from which it was read.
 use Rattle.std.proofs.Common.{◌≡◌, ◌<◌, ◌^◌, ℕ, arith}
 use Rattle.layout.specs.declared.header.Header.{Header}
 use Rattle.layout.specs.Objects.{IsHeader, header_bits, header_of, birth_of, layout_of}

@@ -3,7 +3,7 @@ use Rattle.std.specs.Prelude.{ℕ, ◌+◌, ◌*◌, ◌/◌, ◌%◌, ◌^◌, 
 use Rattle.layout.specs.declared.shape.Layout.{Layout}
 use Rattle.layout.specs.declared.header.Header.{Header}
 
--- the words of an object: its header, its references, its data
+-- the number of words of an object: its header, its references, its data
 abbrev pub size_of : Layout → ℕ
 size_of l = 1 + l.refs + l.nums
 
@@ -24,6 +24,6 @@ birth_of bits = bits % 2 ^ 32 + bits / 2 ^ 40 * 2 ^ 32
 abbrev pub layout_of : ℕ → ℕ
 layout_of bits = bits / 2 ^ 32 % 2 ^ 8
 
--- the header of bits
+-- the header with these bits
 abbrev pub header_of : ℕ → Header
 header_of bits = record { birth = birth_of bits; layout = layout_of bits }

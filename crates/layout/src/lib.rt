@@ -1,4 +1,4 @@
-//! Objects in memory: a header, then the reference words, then the data words.
+//! Objects in memory: a header, then references, then data.
 #![tactic(auto)]
 
 mod header;

@@ -1,12 +1,12 @@
-//! What a split hands out.
+//! The result of splitting an object's words.
 
 /// An object's words as three disjoint borrows of one slice.
 #[derive(Drop)]
 pub struct Split<'a> {
     /// The header's bits.
     pub header: &'a mut u64,
-    /// The reference words.
+    /// The references.
     pub refs: &'a mut [u64],
-    /// The data words.
+    /// The data.
     pub data: &'a mut [u64],
 }

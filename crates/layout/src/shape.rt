@@ -5,17 +5,17 @@ ghost use Rattle.layout.specs.Objects.{size_of};
 
 use std::marker::Model;
 
-/// How many reference words and data words an object has: in a heap 0 to 1,023 each (ours).
+/// The numbers of an object's references and data: in a heap 0 to 1,023 each.
 #[derive(Clone, Copy, Debug, PartialEq, Eq)]
 pub struct Layout {
-    /// The number of reference words.
+    /// The number of references.
     pub refs: u16,
     /// The number of data words.
     pub nums: u16,
 }
 
 impl Layout {
-    /// The words of an object, its header among them: in a heap 1 to 2,047.
+    /// Returns the number of words of an object, including its header: in a heap 1 to 2,047.
     pub fn size(&self) -> u32
         ensures value { result ≡ size_of self.now }
         ensures range { result < 2 ^ 17 }
@@ -40,42 +40,42 @@ impl Model for Layouts {
 }
 
 impl Layouts {
-    /// The table of these layouts.
+    /// Returns the table of these layouts.
     pub fn new(items: Vec<Layout>) -> Layouts
         ensures { result ≡ items.items }
     {
         Layouts { items }
     }
 
-    /// The layout of this number, or `None` where the table ends before it.
+    /// Returns the layout of this number, or `None` if there is no such layout.
     pub fn get(&self, number: u32) -> Option<Layout>
         ensures { result ≡ slice_get self.now number }
     {
         self.items.get(number as usize).copied()
     }
 
-    /// The number of layouts.
+    /// Returns the number of layouts.
     pub fn len(&self) -> usize
         ensures { result ≡ length self.now }
     {
         self.items.len()
     }
 
-    /// Whether there are none.
+    /// Returns whether there are none.
     pub fn is_empty(&self) -> bool
         ensures { result ≡ (length self.now == 0) }
     {
         self.items.is_empty()
     }
 
-    /// The layouts in order.
+    /// Returns the layouts in order.
     pub fn as_slice(&self) -> &[Layout]
         ensures { result.now ≡ self.now }
     {
         &self.items
     }
 
-    /// The layouts as they were handed in.
+    /// Returns the layouts as the vector from which the table was made.
     pub fn into_vec(self) -> Vec<Layout>
         ensures { result.items ≡ self }
     {

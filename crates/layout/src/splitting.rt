@@ -1,4 +1,4 @@
-//! The parts of an object's words, lent at once.
+//! Splitting an object's words into parts that are borrowed at once.
 
 ghost use Rattle.std.specs.Prelude.{◌≡◌, ◌≢◌, ◌+◌, ◌∷◌, ◌++◌, ◌↔◌, ◌<◌, length, IfSome, IsNone};
 ghost use Rattle.std.specs.Borrow.{sem, LendsBothIf, Array, u64};
@@ -7,8 +7,8 @@ ghost use Rattle.layout.specs.Objects.{size_of};
 use crate::parts::Split;
 use crate::shape::Layout;
 
-/// The header, the references and the data of an object, without copying; `None` exactly where
-/// the part's length isn't the layout's size.
+/// Returns the header, the references and the data of an object, without copying. Returns `None` exactly if the
+/// number of words isn't the layout's size.
 pub fn split<'a>(part: &'a mut [u64], layout: &Layout) -> Option<Split<'a>>
     ensures none { IsNone result ↔ (length part.old ≢ size_of layout.now) }
     ensures whole { IfSome result (λ s. s.header.now ∷ s.refs.now ++ s.data.now ≡ part.old) }
@@ -23,8 +23,8 @@ pub fn split<'a>(part: &'a mut [u64], layout: &Layout) -> Option<Split<'a>>
     Some(Split { header, refs, data })
 }
 
-/// The header and the words behind it; `None` for no words. When the borrow ends, the part is
-/// the two, one behind the other.
+/// Returns the header and the words after it; `None` if there are no words. When the borrow ends, the words are the
+/// header followed by the rest.
 pub fn split_header(part: &mut [u64]) -> Option<(&mut u64, &mut [u64])>
     ensures none { IsNone result ↔ (length part.old ≡ 0) }
     ensures whole { IfSome result (λ s. s.0.now ∷ s.1.now ≡ part.old) }
@@ -33,9 +33,8 @@ pub fn split_header(part: &mut [u64]) -> Option<(&mut u64, &mut [u64])>
     part.split_first_mut()
 }
 
-/// Of the words behind a header the references, and the words behind them; `None` exactly where
-/// there are fewer words than references. When the borrow ends, the words are the two, one behind
-/// the other.
+/// Splits the words after a header into the references and the words after them. Returns `None` exactly if there are
+/// fewer words than references. When the borrow ends, the words are the concatenation of the two.
 pub fn split_parts<'a>(
     body: &'a mut [u64],
     layout: Layout,

@@ -1,4 +1,4 @@
--- A load that is done at once, as steps that keep what a heap stands for.
+-- A load that is done at once, as steps that preserve what a heap represents.
 use Rattle.std.proofs.Common.{◌≡◌, ℕ, Bool, true, false, [], ◌∷◌, refl, sym, subst}
 use Rattle.std.specs.Prelude.{Ok}
 use Rattle.model.specs.declared.steps.Actor.TheVariants.{Thread}

@@ -1,4 +1,4 @@
--- A load whose trap is clear ends: neither its heal nor its end is refused. And of three traps one is clear.
+-- A load whose trap is clear ends: neither its heal nor its end is rejected. And of three traps one is clear.
 use Rattle.std.proofs.Common.{◌≡◌, ◌⊎◌, ◌∙◌, ◌/◌, ℕ, suc, Bool, true, false, not, List, length, Option, Some, None}
 use Rattle.std.proofs.Common.{nat_le}
 use Rattle.std.proofs.Common.{refl, sym, subst, ap, inl, inr}

@@ -1,4 +1,4 @@
--- Objects that are scanned whole: steps that scan.
+-- Scans of complete objects: steps that scan.
 use Rattle.std.proofs.Common.{◌≡◌, ◌∙◌, ◌+◌, ℕ, suc, Bool, true, false, List, [], ◌∷◌, ◌++◌, refl, sym, subst}
 use Rattle.std.proofs.Common.{arith}
 use Rattle.std.specs.Prelude.{Ok, Err, if◌then◌else◌, is_ok}

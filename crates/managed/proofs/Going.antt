@@ -34,7 +34,7 @@ each_append P (e ∷ es) fs a b = (a.0, each_append P es fs a.1 b)
 pub goes_none : (P : Actor → Step → Type 0) (h : HeapState) → Goes P h h
 goes_none P h = record { entries = []; each = tt; runs = runs_none h }
 
--- one more step, which may be refused
+-- one more step, which may be rejected
 pub goes_step : (P : Actor → Step → Type 0) (h m g : HeapState) (actor : Actor) (step : Step)
     (result : Result Answer Refusal) → P actor step → DoesStep m step result g (outcome m actor step)
     → KeepsStanding m actor step result g → Goes P h m → Goes P h g

@@ -1,4 +1,4 @@
--- What is left to be copied: nothing of a page that was copied whole.
+-- Uncopied objects: a page that was copied completely has none.
 use Rattle.std.proofs.Common.{◌≡◌, ◌⊎◌, ◌∙◌, inl, inr, ℕ, zero, suc, ◌+◌, ◌-◌, ◌*◌, ◌/◌, ◌%◌, ◌<◌, ◌≤◌, Bool, true}
 use Rattle.std.proofs.Common.{false}
 use Rattle.std.proofs.Common.{not, cond, nat_eq, List, [], ◌∷◌, length, map, Option, Some, None, refl, sym, ap}

@@ -15,3 +15,6 @@ pub mod Corrected
 pub mod Clearing
 pub mod Several
 pub mod ManyData
+pub mod OnePage
+pub mod WordBytes
+pub mod BulkData

@@ -114,20 +114,20 @@ unfolding outcome datum_outcome
 read_there h t object j a v place gate found at word = rw (gate, found, at, word) refl
 
 -- and is refused where nothing stands there
-unread_there : (h : HeapState) (t object j a : ℕ) (place : ℕ) → Passes h t (steps.Datum object j)
+pub unread_there : (h : HeapState) (t object j a : ℕ) (place : ℕ) → Passes h t (steps.Datum object j)
     → usable h t object ≡ Ok a → datum_at h a j ≡ Some place → word_at h.store place ≡ None
     → outcome h (Thread t) (steps.Datum object j) ≡ Err refusals.BadIndex
 unfolding outcome datum_outcome
 unread_there h t object j a place gate found at none = rw (gate, found, at, none) refl
 
 -- where data word i of a run stands
-place_in : (h : HeapState) (t object j count : ℕ) (r : Run) (i : ℕ) → IsRun h t object j count r → i < count
+pub place_in : (h : HeapState) (t object j count : ℕ) (r : Run) (i : ℕ) → IsRun h t object j count r → i < count
     → datum_at h r.address (j + i) ≡ Some (r.address + r.ahead + i)
 place_in h t object j count r i k low =
     datum_there h r.address (j + i) k.shape.refs (j + i) k.shape k.at (omega (arith, low, k.fits)) refl refl
     ∙ ap Some (omega (arith, k.ahead))
 
-gate_in : (h : HeapState) (t object j k : ℕ) → Passes h t (steps.Datum object j) → Passes h t (steps.Datum object k)
+pub gate_in : (h : HeapState) (t object j k : ℕ) → Passes h t (steps.Datum object j) → Passes h t (steps.Datum object k)
 gate_in h t object j k gate = gate_read h t object j k ∙ gate
 
 pub run_read : (h : HeapState) (t object j : ℕ) (r : Run) (values : List ℕ) (count : ℕ)

@@ -1,4 +1,4 @@
--- Accepted steps keep what a heap stands for, from one to the next.
+-- Accepted steps preserve what a heap represents, from one to the next.
 use Rattle.std.proofs.Common.{◌≡◌, ◌∙◌, ℕ, List, [], ◌∷◌, ◌++◌, refl, sym, subst}
 use Rattle.std.specs.Prelude.{Result, Ok, Err}
 use Rattle.layout.specs.declared.shape.Layout.{Layout}

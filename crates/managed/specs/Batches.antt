@@ -28,29 +28,29 @@ EndsLoads t object n (l ∷ ls) h r g =
     ((m : HeapState) × LoadsField t object l h (Ok tt) m × EndsLoads t object (n + 1) ls m r g)
     ⊎ ((e : Refusal) × LoadsField t object l h (Err e) g × (r ≡ Err (record { done = n; refusal = e })))
 
--- as many references and data as a layout may have
+-- no more references and data words than a layout may have
 pub record LayoutHas (refs nums : ℕ) : Type 0 where
   pub refs_fit : refs ≤ 65535
   pub nums_fit : nums ≤ 65535
 
--- a layout that may be missing has so many references and data
+-- a layout that may be missing has at least `refs` references and `nums` data words
 abbrev pub has_places : Option Layout → ℕ → ℕ → Bool
 has_places None refs nums = false
 has_places (Some l) refs nums = nat_le refs l.refs && nat_le nums l.nums
 
--- the layout of a number has so many references and data
+-- the layout of a number has at least `refs` references and `nums` data words
 unfoldable pub places_test : HeapState → ℕ → ℕ → ℕ → Result Unit Refusal
 places_test h layout refs nums =
     if has_places (slice_get h.config.layouts layout) refs nums then Ok tt else Err refusals.BadIndex
 
--- a register may be stored in the new object that another one will name
+-- a register may be stored in the new object that register `target` will name
 unfoldable pub source_test : HeapState → ℕ → ℕ → ℕ → Result Unit Refusal
 source_test h t target source =
     if no_register h source then Err refusals.BadIndex else (if source == target then Ok tt else do
       _ ← usable_or_null h t source
       Ok tt)
 
--- each of these registers may
+-- each of these registers may be stored so
 abbrev pub sources_test : HeapState → ℕ → ℕ → List ℕ → Result Unit Refusal
 sources_test h t target [] = Ok tt
 sources_test h t target (s ∷ ss) = do
@@ -77,7 +77,7 @@ set_steps object j (x ∷ xs) = steps.SetDatum object j x ∷ set_steps object (
 abbrev pub fill_steps : ℕ → List ℕ → List ℕ → List Step
 fill_steps object sources nums = store_steps object 0 sources ++ set_steps object 0 nums
 
--- such steps of thread t, one after another, up to the first that is refused
+-- such steps of thread t, one after another, up to the first that is rejected
 abbrev pub EndsFilling : ℕ → List Step → HeapState → Result Unit Refusal → HeapState → Type 0
 EndsFilling t [] h r g = (r ≡ Ok tt) × (g ≡ h)
 EndsFilling t (s ∷ ss) h r g =
@@ -89,17 +89,17 @@ abbrev pub IsRestOfSteps : ℕ → List Step → HeapState → List Step → Hea
 IsRestOfSteps t all h rest m = (r : Result Unit Refusal) (g : HeapState)
     → EndsFilling t rest m r g → EndsFilling t all h r g
 
--- the same of stores from store i on, where all begin with store first
+-- IsRestOfSteps of stores from store i on, if all begin with store `first`
 abbrev pub IsRestOfStores : ℕ → ℕ → ℕ → HeapState → List ℕ → ℕ → HeapState → Type 0
 IsRestOfStores t object first h ss i m =
     IsRestOfSteps t (store_steps object first (drop first ss)) h (store_steps object i (drop i ss)) m
 
--- the same of data words
+-- IsRestOfSteps of writes of data words
 abbrev pub IsRestOfData : ℕ → ℕ → ℕ → HeapState → List ℕ → ℕ → HeapState → Type 0
 IsRestOfData t object first h xs j m =
     IsRestOfSteps t (set_steps object first (drop first xs)) h (set_steps object j (drop j xs)) m
 
--- the same of loads
+-- IsRestOfSteps of loads
 abbrev pub IsRestOfLoads : ℕ → ℕ → ℕ → HeapState → List FieldLoad → ℕ → HeapState → Type 0
 IsRestOfLoads t object first h ls n m = (r : Result Unit LoadsFault) (g : HeapState)
     → EndsLoads t object n (drop n ls) m r g → EndsLoads t object first (drop first ls) h r g

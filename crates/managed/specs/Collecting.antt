@@ -1,4 +1,4 @@
--- Steps that the plain heap doesn't see.
+-- Steps that leave the reference model as it is.
 use Rattle.std.specs.Prelude.{◌≡◌, ◌⊎◌, ℕ, None, Result, Ok, Err}
 use Rattle.model.specs.declared.steps.Actor.{Actor}
 use Rattle.model.specs.declared.steps.Actor.TheVariants.{Thread, Worker}
@@ -22,23 +22,23 @@ IsCollecting w (Thread t) (steps.Scrub r) = Unit {0}
 IsCollecting w (Thread t) _ = ⊥
 IsCollecting w (Worker v) step = v ≡ w
 
--- where heap h stood for a plain heap, g stands for the same; a mark may have begun since
+-- if heap h represents a reference model, g represents the same one; a mark may have begun since
 pub record StandsUnseen (h g : HeapState) : Type 0 where
   pub same : (p p0 : PlainHeap) → Holds h p p0 → (q0 : PlainHeap) × Holds g p q0
 
--- how many objects live, as an answer tells
+-- how many objects live, by an answer
 abbrev pub live_in : Answer → ℕ
 live_in (answers.Ended live retired) = live
 live_in _ = 0
 
--- the same of a reply
+-- how many objects live, by a reply
 abbrev pub live_told : Result Answer Refusal → Result ℕ Refusal
 live_told (Ok a) = Ok (live_in a)
 live_told (Err e) = Err e
 
--- a mark has ended: its last step was EndMark, whose answer told how many live; and where heap h stood for a plain
--- heap, g stands for the same, all that can be reached is live, and what is live could be reached as the mark began, or
--- is born since
+-- a mark has ended: its last step was EndMark, which returned how many objects live; and if heap h represents a
+-- reference model, g represents the same one, all that can be reached is live, and what is live could be reached as
+-- the mark began, or is born since
 pub record EndsWell (w : ℕ) (h : HeapState) (live : ℕ) (g : HeapState) : Type 0 where
   pub before : HeapState
   pub answer : Answer
@@ -55,8 +55,8 @@ Crosses w h g = Goes (IsCrossing w) h g × (all_crossed g ≡ Ok tt)
 abbrev pub StopsCrossing : ℕ → HeapState → Refusal → HeapState → Type 0
 StopsCrossing w h e g = Goes (IsCrossing w) h g × (all_crossed g ≡ Err e) × IsBehind w g e
 
--- what is left of a mark that all threads have crossed stopped so: the next step of its drain is refused, or too much
--- was left; or nothing was left, and EndMark is refused
+-- the rest of a mark that all threads have crossed failed with e: the next step of its drain is rejected, or too
+-- much was left; or nothing was left, and EndMark is rejected
 abbrev pub StopsScanning : ℕ → HeapState → Refusal → HeapState → Type 0
 StopsScanning w h e g =
     Goes (IsDrain w) h g
@@ -67,7 +67,7 @@ abbrev pub EndsScanned : ℕ → HeapState → Result ℕ Refusal → HeapState 
 EndsScanned w h (Ok live) g = EndsWell w h live g
 EndsScanned w h (Err e) g = StopsScanning w h e g
 
--- what is left of a mark that has begun stopped so: while threads cross, or after they have
+-- the rest of a mark that has begun failed with e: while threads cross, or after they have
 abbrev pub StopsMarking : ℕ → HeapState → Refusal → HeapState → Type 0
 StopsMarking w h e g = StopsCrossing w h e g ⊎ ((m : HeapState) × Crosses w h m × StopsScanning w m e g)
 
@@ -80,7 +80,7 @@ EndsRest w h (Err e) g = StopsMarking w h e g
 abbrev pub Begins : ℕ → HeapState → HeapState → Type 0
 Begins w h g = (a : Answer) × Steps (Worker w) steps.StartMark a h g
 
--- how a mark ended: it has begun, and its rest has ended; or its beginning is refused, and nothing is done
+-- how a mark ended: it has begun, and its rest has ended; or its beginning is rejected, and nothing is done
 abbrev pub EndsMark : ℕ → HeapState → Result ℕ Refusal → HeapState → Type 0
 EndsMark w h (Ok live) g = (m : HeapState) × Begins w h m × EndsWell w m live g
 EndsMark w h (Err e) g =
@@ -96,10 +96,10 @@ EndsHere w h (Err e) g = (outcome h (Worker w) steps.EndMark ≡ Err e) × (g �
 abbrev pub Marks : ℕ → HeapState → Result ℕ Refusal → HeapState → Type 0
 Marks w h result g = Goes (IsCollecting w) h g × EndsMark w h result g
 
--- the same of the rest of a mark
+-- the steps of the rest of a mark, and how it ended
 abbrev pub MarksRest : ℕ → HeapState → Result ℕ Refusal → HeapState → Type 0
 MarksRest w h result g = Goes (IsCollecting w) h g × EndsRest w h result g
 
--- the same of the rest of a mark that all threads have crossed
+-- the steps of the rest of a mark that all threads have crossed, and how it ended
 abbrev pub MarksScanned : ℕ → HeapState → Result ℕ Refusal → HeapState → Type 0
 MarksScanned w h result g = Goes (IsCollecting w) h g × EndsScanned w h result g

@@ -19,8 +19,8 @@ use Rattle.managed.specs.Collecting.{IsCollecting, Crosses, StopsCrossing}
 abbrev pub IsBare : HeapState → ℕ → Type 0
 IsBare h n = frame_in (page_at h.store n) ≡ None
 
--- page n was emptied by worker w: it has no frame, no page that had none has got one, and one frame more is free; the
--- other pages are in the state that they were in, and so is the collector
+-- page n was emptied by worker w: it has no frame, no page without a frame got one, and one frame more is free; the
+-- other pages and the collector are in the same states as before
 pub record PageFreed (w : ℕ) (h : HeapState) (n : ℕ) (g : HeapState) : Type 0 where
   pub goes : Goes (IsCollecting w) h g
   pub bare : IsBare g n
@@ -31,14 +31,14 @@ pub record PageFreed (w : ℕ) (h : HeapState) (n : ℕ) (g : HeapState) : Type 
   pub count : g.store.count ≡ h.store.count
   pub phase : g.phase ≡ h.phase
 
--- pages were emptied: each has no frame, no page that had none has got one, and as many frames more are free
+-- pages were emptied: each has no frame, no page without a frame got one, and as many frames more are free
 pub record PagesFreed (w : ℕ) (h : HeapState) (ns : List ℕ) (g : HeapState) : Type 0 where
   pub goes : Goes (IsCollecting w) h g
   pub bare : AllByRecursion (IsBare g) ns
   pub stay : (m : ℕ) → IsBare h m → IsBare g m
   pub more : free_count g.store ≡ free_count h.store + length ns
 
--- page n isn't emptied: that all of it is copied is refused so, or that it gives its memory up
+-- page n isn't emptied: the copying of its objects is rejected with e, or the release of its memory
 abbrev pub StopsPage : ℕ → HeapState → ℕ → Refusal → HeapState → Type 0
 StopsPage w h n e g =
     ((outcome h (Worker w) (steps.CopyPage n) ≡ Err e) × (g ≡ h))
@@ -50,7 +50,7 @@ abbrev pub EndsPage : ℕ → HeapState → ℕ → Result Unit Refusal → Heap
 EndsPage w h n (Ok u) g = PageFreed w h n g
 EndsPage w h n (Err e) g = Goes (IsCollecting w) h g × StopsPage w h n e g
 
--- how it ended that a page gave its memory up
+-- how the release of a page's memory ended
 abbrev pub EndsRelease : ℕ → HeapState → ℕ → Result Unit Refusal → HeapState → Type 0
 EndsRelease w h n (Ok u) g = PageFreed w h n g
 EndsRelease w h n (Err e) g = (outcome h (Worker w) (steps.Release n) ≡ Err e) × (g ≡ h)
@@ -71,7 +71,7 @@ abbrev pub EndsPages : ℕ → HeapState → List ℕ → Result Unit Refusal �
 EndsPages w h ns (Ok u) g = PagesFreed w h ns g
 EndsPages w h ns (Err e) g = StopsPages w h ns e g
 
--- the emptying of protected pages stopped so: while threads cross, or at a page
+-- the emptying of protected pages failed with e: while threads cross, or at a page
 abbrev pub StopsProtected : ℕ → HeapState → List ℕ → Refusal → HeapState → Type 0
 StopsProtected w h ns e g = StopsCrossing w h e g ⊎ ((m : HeapState) × Crosses w h m × StopsPages w m ns e g)
 
@@ -84,8 +84,8 @@ EndsProtected w h ns (Err e) g = StopsProtected w h ns e g
 abbrev pub Protects : ℕ → HeapState → List ℕ → HeapState → Type 0
 Protects w h ns g = (a : Answer) × Steps (Worker w) (steps.Protect ns) a h g
 
--- how the emptying of pages ended, from their protection on: they are protected, and then emptied as far as it was
--- told; or that they are protected is refused so, or lacked memory, and nothing is done
+-- how the emptying of pages ended, from their protection on: they are protected, and then emptied as far as the
+-- result says; or Protect is rejected with e, or out of memory, and nothing is done
 abbrev pub EndsEmptying : ℕ → HeapState → List ℕ → Result Unit Refusal → HeapState → Type 0
 EndsEmptying w h ns (Ok u) g = (m : HeapState) × Protects w h ns m × PagesFreed w m ns g
 EndsEmptying w h ns (Err e) g =
@@ -96,7 +96,7 @@ EndsEmptying w h ns (Err e) g =
 abbrev pub Empties : ℕ → HeapState → List ℕ → Result Unit Refusal → HeapState → Type 0
 Empties w h ns result g = Goes (IsCollecting w) h g × EndsEmptying w h ns result g
 
--- the same of protected pages
+-- the steps of an emptying of protected pages, and how it ended
 abbrev pub EmptiesProtected : ℕ → HeapState → List ℕ → Result Unit Refusal → HeapState → Type 0
 EmptiesProtected w h ns result g = Goes (IsCollecting w) h g × EndsProtected w h ns result g
 

@@ -1,4 +1,4 @@
--- Steps that are done in one go, or not at all.
+-- Steps that are done at once, or not at all.
 use Rattle.std.specs.Prelude.{◌≡◌, ℕ, Bool, true, false, Ok}
 use Rattle.model.specs.Saying.{done}
 use Rattle.model.specs.declared.steps.Step.{Step}

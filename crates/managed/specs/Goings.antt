@@ -25,32 +25,32 @@ use Rattle.managed.specs.Runs.{Runs}
 abbrev pub entry : Actor → Step → Answer → Entry
 entry actor step answer = record { actor = actor; step = step; answer = answer }
 
--- each of these steps is such a one
+-- each of these entries is of kind P
 abbrev pub EachIs : (Actor → Step → Type 0) → List Entry → Type 0
 EachIs P [] = Unit {0}
 EachIs P (e ∷ es) = P e.actor e.step × EachIs P es
 
--- accepted steps, each such a one, lead from heap h to g, and keep what h stands for
+-- accepted steps, each of kind P, lead from heap h to g, and preserve what h represents
 pub record Goes (P : Actor → Step → Type 0) (h g : HeapState) : Type 0 where
   pub entries : List Entry
   pub each : EachIs P entries
   pub runs : Runs h entries g
 
--- the same, by n steps or more
+-- Goes by n steps or more
 pub record GoesFar (P : Actor → Step → Type 0) (n : ℕ) (h g : HeapState) : Type 0 where
   pub goes : Goes P h g
   pub many : n ≤ length goes.entries
 
--- the same, by just n steps
+-- Goes by exactly n steps
 pub record GoesBy (P : Actor → Step → Type 0) (n : ℕ) (h g : HeapState) : Type 0 where
   pub goes : Goes P h g
   pub many : length goes.entries ≡ n
 
--- one accepted step leads from heap h to g, and keeps what h stands for
+-- one accepted step leads from heap h to g, and preserves what h represents
 abbrev pub Steps : Actor → Step → Answer → HeapState → HeapState → Type 0
 Steps actor step answer h g = Runs h (entry actor step answer ∷ []) g
 
--- where heap h stood for a plain heap, g stands for the same
+-- if heap h represents a reference model, g represents the same one
 pub record StandsForSame (h g : HeapState) : Type 0 where
   pub same : (p p0 : PlainHeap) → Holds h p p0 → Holds g p p0
 
@@ -65,7 +65,7 @@ abbrev pub IsInBarrier : ℕ → Actor → Step → Type 0
 IsInBarrier t (Thread u) step = (u ≡ t) × IsTrapOrHeal step
 IsInBarrier t (Worker w) step = ⊥
 
--- how a trap of thread t ended: it says that none was due, or that one was
+-- how a trap of thread t ended: none was due, or one was
 abbrev pub EndsTrap : HeapState → ℕ → Result Bool Refusal → HeapState → Type 0
 EndsTrap h t (Ok true) g = outcome h (Thread t) steps.Trap ≡ Ok (g, answers.Clear)
 EndsTrap h t (Ok false) g =
@@ -73,7 +73,7 @@ EndsTrap h t (Ok false) g =
     ⊎ (outcome h (Thread t) steps.Trap ≡ Ok (g, answers.Marked))
 EndsTrap h t (Err e) g = outcome g (Thread t) steps.Trap ≡ Err e
 
--- of so many traps of thread t, one after another, one is clear, if none is refused
+-- of N traps of thread t, one after another, one is clear, if none is rejected
 abbrev pub TrapsLeft : ℕ → HeapState → ℕ → Type 0
 TrapsLeft zero h t = ⊥
 TrapsLeft (suc n) h t = (g : HeapState) (a : Answer) → outcome h (Thread t) steps.Trap ≡ Ok (g, a)
@@ -83,17 +83,17 @@ TrapsLeft (suc n) h t = (g : HeapState) (a : Answer) → outcome h (Thread t) st
 abbrev pub IsClear : HeapState → ℕ → Type 0
 IsClear h t = (m : HeapState) × (outcome m (Thread t) steps.Trap ≡ Ok (h, answers.Clear))
 
--- a load whose trap is clear was ended: by a heal, where the word was corrected and its place isn't healed, and Finish
+-- a load whose trap is clear was ended: by a heal, if the word was corrected and its place isn't healed, and Finish
 abbrev pub EndsClear : HeapState → ℕ → HeapState → Type 0
 EndsClear h t g = (m : HeapState) × Goes (IsInBarrier t) h m × Steps (Thread t) steps.Finish answers.Done m g
 
--- a load that had begun is ended: by traps and heals, and then Finish. It is refused only as its trap is, as the heap
--- stands, which is the step that is due then; those before it are done
+-- a load that has begun is ended: by traps and heals, and then Finish. It fails only as its trap does on the heap
+-- then, which is the step that is due; those before it are done
 abbrev pub EndsLoad : HeapState → ℕ → Result Unit Refusal → HeapState → Type 0
 EndsLoad h t (Ok u) g = EndsClear h t g
 EndsLoad h t (Err e) g = Goes (IsInBarrier t) h g × (outcome g (Thread t) steps.Trap ≡ Err e)
 
--- a whole load: the step that begins it, and those that end it; where the first is refused, nothing is done
+-- a complete load: the step that begins it, and those that end it; if the first is rejected, nothing is done
 abbrev pub LoadsWhole : HeapState → ℕ → Step → Result Unit Refusal → HeapState → Type 0
 LoadsWhole h t begin (Ok u) g =
     (m : HeapState) × Steps (Thread t) begin answers.Loaded h m × EndsLoad m t (Ok u) g
@@ -101,18 +101,18 @@ LoadsWhole h t begin (Err e) g =
     ((outcome h (Thread t) begin ≡ Err e) × (g ≡ h))
     ⊎ ((m : HeapState) × Steps (Thread t) begin answers.Loaded h m × EndsLoad m t (Err e) g)
 
--- the plain heap after a whole load: the register has the reference
+-- the reference model after a complete load: the register has the reference
 abbrev pub plain_loaded : List Layout → PlainHeap → ℕ → Step → PlainHeap
 plain_loaded ls p t begin = plain_step ls (plain_step ls p (Thread t) begin) (Thread t) steps.Finish
 
--- where heap h stood for a plain heap, after a whole load g stands for the plain heap whose register has the reference;
--- and after one that was refused, for that with the load begun, or as it was
+-- if heap h represents a reference model, after a complete load g represents the one whose register has the
+-- reference; and after one that failed, the one with the load begun, or the same one
 abbrev pub LoadStands : HeapState → ℕ → Step → Result Unit Refusal → HeapState → Type 0
 LoadStands h t begin (Ok u) g = (p p0 : PlainHeap) → Holds h p p0 → Holds g (plain_loaded h.config.layouts p t begin) p0
 LoadStands h t begin (Err e) g = (p p0 : PlainHeap) → Holds h p p0
     → (Holds g p p0 ⊎ Holds g (plain_step h.config.layouts p (Thread t) begin) p0)
 
--- a whole load in one go: true if it is done, and false if nothing is
+-- a complete load at once: true if it is done, and false if nothing is
 abbrev pub MayLoadWhole : Bool → HeapState → ℕ → Step → HeapState → Type 0
 MayLoadWhole true h t begin g = LoadsWhole h t begin (Ok tt) g × LoadStands h t begin (Ok tt) g
 MayLoadWhole false h t begin g = g ≡ h
@@ -129,7 +129,7 @@ abbrev pub IsScan : ℕ → Actor → Step → Type 0
 IsScan w (Thread t) step = ⊥
 IsScan w (Worker v) step = (v ≡ w) × Scans step
 
--- how a scan ended: true where nothing is left that no other worker has; a refusal is that of the next step
+-- how a scan ended: true if nothing is left but what other workers have; an error is that of the next step
 abbrev pub EndsScan : ℕ → Result Bool Refusal → HeapState → Type 0
 EndsScan w (Ok true) g = next_drain g w ≡ None
 EndsScan w (Ok false) g = Unit {0}
@@ -139,7 +139,7 @@ EndsScan w (Err e) g = (step : Step) × (next_drain g w ≡ Some step) × (outco
 abbrev pub ScansUpTo : ℕ → ℕ → HeapState → HeapState → Type 0
 ScansUpTo w n h g = (k : ℕ) × (k ≤ n) × GoesBy (IsScan w) k h g
 
--- if a scan of at most n steps says that something is left, it has done n; else it may have done fewer
+-- a scan of at most n steps that returns false has done n; any other may have done fewer
 abbrev pub ScansFar : ℕ → ℕ → HeapState → Result Bool Refusal → HeapState → Type 0
 ScansFar w n h (Ok false) g = GoesBy (IsScan w) n h g
 ScansFar w n h (Ok true) g = ScansUpTo w n h g
@@ -150,12 +150,12 @@ abbrev pub objects_in : List Entry → ℕ
 objects_in [] = 0
 objects_in (e ∷ es) = if is_pick e.step then suc (objects_in es) else objects_in es
 
--- scans of worker w, which take n objects, lead from heap h to g, and keep what h stands for
+-- scans of worker w, which take n objects, lead from heap h to g, and preserve what h represents
 pub record ScansObjects (w n : ℕ) (h g : HeapState) : Type 0 where
   pub goes : Goes (IsScan w) h g
   pub count : objects_in goes.entries ≡ n
 
--- a step of a drain: it scans, or it copies what is left to be copied of a page
+-- a step of a drain: it scans, or it copies the uncopied objects of a page
 abbrev pub Drains : Step → Type 0
 Drains (steps.CopyPage page) = Unit {0}
 Drains step = Scans step
@@ -165,16 +165,16 @@ abbrev pub IsDrain : ℕ → Actor → Step → Type 0
 IsDrain w (Thread t) step = ⊥
 IsDrain w (Worker v) step = (v ≡ w) × Drains step
 
--- so many objects a drain scans at most
+-- the most objects that a drain scans
 abbrev pub MOST_OBJECTS : ℕ
 MOST_OBJECTS = 2 ^ 64 - 1
 
--- so many objects were scanned, behind what came before them
+-- the most objects were scanned, after the steps before them
 abbrev pub DrainsMost : ℕ → HeapState → HeapState → Type 0
 DrainsMost w h g = (m : HeapState) × Goes (IsDrain w) h m × ScansObjects w MOST_OBJECTS m g
 
--- how a drain from heap h ended: nothing is left that no other worker has; or the next step is refused so; or so many
--- objects weren't all
+-- how a drain from heap h ended: nothing is left but what other workers have; or the next step is rejected with e;
+-- or the most objects weren't all
 abbrev pub EndsDrain : ℕ → HeapState → Result Unit Refusal → HeapState → Type 0
 EndsDrain w h (Ok u) g = next_drain g w ≡ None
 EndsDrain w h (Err e) g = ((e ≡ refusals.TodoLeft) × DrainsMost w h g) ⊎ EndsScan w (Err e) g
@@ -196,11 +196,11 @@ IsStuck w g t =
 abbrev pub HasTried : ℕ → HeapState → ℕ → Type 0
 HasTried w g t = (has_crossed (slice_get g.threads t) ≡ true) ⊎ IsStuck w g t
 
--- the refusal is that this thread hasn't crossed, which can't
+-- the error is that a thread hasn't crossed, which can't
 abbrev pub IsBehind : ℕ → HeapState → Refusal → Type 0
 IsBehind w g e = (t : ℕ) × (e ≡ refusals.NotCrossed t) × IsStuck w g t
 
--- where not all threads have crossed, the refusal is that of one which can't
+-- if not all threads have crossed, the error is that of one which can't
 abbrev pub AllTried : ℕ → Result Unit Refusal → HeapState → Type 0
 AllTried w (Ok u) g = Unit {0}
 AllTried w (Err e) g = IsBehind w g e

@@ -7,4 +7,5 @@ pub mod Managing
 pub mod Scrubbing
 pub mod Batches
 pub mod Data
+pub mod Bytes
 pub mod Found

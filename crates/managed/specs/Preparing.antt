@@ -1,4 +1,4 @@
--- What a worker does before it may scan objects whole.
+-- What a worker does before it may scan complete objects.
 use Rattle.std.specs.Prelude.{◌≡◌, ◌⊎◌, ◌<◌, ℕ, Bool, true, false, length, Some, None, Ok}
 use Rattle.std.specs.Prelude.{slice_get, is_ok}
 use Rattle.std.specs.List.{list_any}
@@ -18,11 +18,11 @@ use Rattle.managed.specs.Goings.{Goes, GoesFar, Scans, IsDrain}
 abbrev pub ScansNothing : ℕ → HeapState → Type 0
 ScansNothing w h = (step : Step) → Scans step → is_ok (outcome h (Worker w) step) ≡ false
 
--- worker w may scan objects whole, or no scan of it is accepted
+-- worker w may scan complete objects, or no scan of it is accepted
 abbrev pub IsPrepared : ℕ → HeapState → Type 0
 IsPrepared w h = IsReady h w ⊎ ScansNothing w h
 
--- a part of what comes before: true where something was done; false where nothing was, as nothing was left of it
+-- a part of the preparation: true if something was done; false if nothing was, as nothing was left of it
 abbrev pub Prepares : ℕ → HeapState → Bool → HeapState → Type 0
 Prepares w h true g = GoesFar (IsDrain w) 1 h g
 Prepares w h false g = (g ≡ h) × IsPrepared w g
@@ -32,12 +32,12 @@ pub record MayWork (w : ℕ) (h : HeapState) : Type 0 where
   pub scan : may_scan h ≡ Ok tt
   pub there : w < length h.workers
 
--- the same, and it has no object
+-- MayWork, and the worker has no object
 pub record IsFree (w : ℕ) (h : HeapState) : Type 0 where
   pub scan : may_scan h ≡ Ok tt
   pub worker : slice_get h.workers w ≡ Some None
 
--- a worker's object behind a field: it goes on with the next one, or has none
+-- a worker's object after a field: the worker continues with the next one, or has none
 abbrev pub GoesOn : ℕ → Scan → HeapState → Type 0
 GoesOn w s g =
     (slice_get g.workers w ≡ Some None)
@@ -49,16 +49,16 @@ pub record FieldDone (h : HeapState) (w : ℕ) (s : Scan) (g : HeapState) : Type
   pub many : length g.workers ≡ length h.workers
   pub now : GoesOn w s g
 
--- the same, by a step
+-- FieldDone, by a step
 pub record ScansField (w : ℕ) (h g : HeapState) : Type 0 where
   pub goes : GoesFar (IsDrain w) 1 h g
   pub done : (s : Scan) → slice_get h.workers w ≡ Some (Some s) → FieldDone h w s g
 
--- nothing of page n is left to be copied
+-- page n has no uncopied object
 abbrev pub AllCopied : HeapState → ℕ → Type 0
 AllCopied h n = list_any is_uncopied (of_page h.sides n) ≡ false
 
--- nothing of page n is left to be copied, nor of a page of which nothing was left
+-- page n has no uncopied object, nor has a page that had none
 pub record PageDone (w : ℕ) (h : HeapState) (n : ℕ) (g : HeapState) : Type 0 where
   pub goes : Goes (IsDrain w) h g
   pub free : IsFree w g
@@ -66,7 +66,7 @@ pub record PageDone (w : ℕ) (h : HeapState) (n : ℕ) (g : HeapState) : Type 0
   pub done : AllCopied g n
   pub stay : (m : ℕ) → AllCopied h m → AllCopied g m
 
--- what is told of that: whether anything was left
+-- whether the page had an uncopied object: true if steps were done, false if nothing was
 abbrev pub TellsDone : ℕ → HeapState → Bool → HeapState → Type 0
 TellsDone w h true g = GoesFar (IsDrain w) 1 h g
 TellsDone w h false g = g ≡ h

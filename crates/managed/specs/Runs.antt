@@ -11,14 +11,14 @@ abbrev pub Leads : HeapState → List Entry → HeapState → Type 0
 Leads h [] g = g ≡ h
 Leads h (e ∷ es) g = (m : HeapState) × (outcome h e.actor e.step ≡ Ok (m, e.answer)) × Leads m es g
 
--- from a heap that stood for a plain heap, steps keep that: the heap g after them stands for the plain heap after them,
--- and each answer is the plain heap's at its place
+-- steps from a heap that represents a reference model preserve that: the heap g after them represents the reference
+-- model after them, and each answer is the model's at its place
 pub record StandsAfter (h : HeapState) (r : Replayed) (es : List Entry) (g : HeapState) : Type 0 where
   pub config : g.config ≡ h.config
   pub holds : Holds g (after_entries h.config.layouts r es).now (after_entries h.config.layouts r es).at_mark
   pub answers : AnswersAre h.config.layouts r es
 
--- accepted steps lead from heap h to g, and keep what heap h stands for
+-- accepted steps lead from heap h to g, and preserve what heap h represents
 pub record Runs (h : HeapState) (es : List Entry) (g : HeapState) : Type 0 where
   pub steps : Leads h es g
   pub stands : (r : Replayed) → Holds h r.now r.at_mark → StandsAfter h r es g

@@ -20,12 +20,12 @@ IsScrubbed h t r =
     is_parked_in (slice_get h.threads t) ≡ false → is_loading_in (slice_get h.threads t) ≡ false
     → names_protected h (register_of h t r) ≡ false
 
--- this holds of all registers. Nothing is said of a parked thread, nor of one with an open barrier: their registers
+-- IsScrubbed holds for all registers. This excludes a parked thread, and one with an open barrier: their registers
 -- stay as they are, and a later call corrects them
 abbrev pub AreScrubbed : HeapState → Type 0
 AreScrubbed h = (t r : ℕ) → IsScrubbed h t r
 
--- where no page is protected, or a mark runs that all threads have crossed, this holds of itself
+-- if no page is protected, or a mark runs that all threads have crossed, AreScrubbed holds anyway
 abbrev pub needs_no_scrub : Phase → Bool
 needs_no_scrub Idle = true
 needs_no_scrub Scanning = true

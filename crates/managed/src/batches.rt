@@ -1,4 +1,4 @@
-//! Several steps of a thread by one call: loads of one object, and what a new object is filled with.
+//! Several steps of a thread by one call: loads from one object, and the stores that fill a new object.
 
 ghost use Rattle.std.specs.Prelude.{◌≡◌, ◌≤◌, ◌++◌, IfOk, drop, length};
 ghost use Rattle.heap.specs.Found.{FindsObject};
@@ -26,17 +26,17 @@ pub struct FieldLoad {
 pub struct LoadsFault {
     /// How many loads are done, from the first one on.
     pub done: usize,
-    /// Why the next one isn't.
+    /// Why the next load failed.
     pub refusal: Refusal,
 }
 
 impl ManagedHeap {
-    /// Loads several reference fields of the object that a register names, each as `read` does, in their
-    /// order. A load whose `target` is that register comes last: those after it would load from the object
-    /// that the register names then.
+    /// Loads several reference fields of the object that a register names, each as `read` does, in their order. A
+    /// load whose `target` is that register comes last: later loads would be from the object that the register names
+    /// then.
     ///
-    /// Stops at the first load that fails, and returns how many are done, and why this one isn't. Fails as
-    /// `read` does.
+    /// Stops at the first load that fails, and returns how many are done, and why this one failed. Fails as `read`
+    /// does.
     #[inline(always)]
     pub fn loads(
         &mut self,
@@ -56,8 +56,8 @@ impl ManagedHeap {
         Ok(())
     }
 
-    /// Loads these references of an object that was found, up to the first that can't be loaded in one go, or to the one
-    /// after which the object's register names another object. Returns how many are done.
+    /// Loads these references of an object that was found, up to the first that can't be loaded at once, or to the
+    /// one after which the object's register names another object. Returns how many are done.
     #[inline(always)]
     fn load_first(
         &mut self,
@@ -102,11 +102,11 @@ impl ManagedHeap {
         Ok(())
     }
 
-    /// Whether a new object of a layout can be filled: it has as many references and data, and each source
-    /// may be stored. The register of the new object may be a source, and then names that object.
+    /// Tests whether a new object of a layout can be filled: the layout has enough references and data words, and
+    /// each source may be stored. The register of the new object may be a source, and then names that object.
     ///
-    /// Fails with `BadIndex` if a register or a layout isn't there, or the layout has fewer references or
-    /// data; and with `Stall` or `Stale` if a source may not be used.
+    /// Fails with `BadIndex` if a register or a layout isn't there, or the layout has fewer references or data
+    /// words; and with `Stall` or `Stale` if a source may not be used.
     #[inline(always)]
     #[tactic(auto, unfolding(crate::specs::Batches::fill_test))]
     pub fn may_fill(
@@ -126,7 +126,7 @@ impl ManagedHeap {
         }
     }
 
-    /// Whether a layout has at least `refs` references and `nums` data words.
+    /// Tests whether a layout has at least `refs` references and `nums` data words.
     #[inline(always)]
     #[tactic(auto, unfolding(crate::specs::Batches::places_test))]
     fn may_place(&self, layout: u32, refs: usize, nums: usize) -> Result<(), Refusal>
@@ -145,7 +145,7 @@ impl ManagedHeap {
         Ok(())
     }
 
-    /// Whether each of these registers may be stored in the new object of another one.
+    /// Tests whether each of these registers may be stored in the new object of another register.
     #[inline(always)]
     fn may_store_each(&self, thread: u32, target: u32, sources: &[u32]) -> Result<(), Refusal>
         ensures { result ≡ sources_test self.now thread target sources.now }
@@ -158,7 +158,7 @@ impl ManagedHeap {
         Ok(())
     }
 
-    /// Whether a register may be stored in the new object of another one.
+    /// Tests whether a register may be stored in the new object of another register.
     #[inline(always)]
     #[tactic(auto, unfolding(crate::specs::Batches::source_test, model::specs::Outcome::no_register))]
     fn may_store(&self, thread: u32, target: u32, source: u32) -> Result<(), Refusal>
@@ -176,8 +176,8 @@ impl ManagedHeap {
         }
     }
 
-    /// Fills an object: its first references are those of registers, and its first data words are given.
-    /// Stops at the first word that can't be written, and fails as `store` or `set_datum` does; those before
+    /// Fills an object: stores the registers `sources` in its first references, and writes `nums` to its first data
+    /// words. Stops at the first word that can't be written, and fails as `store` or `set_datum` does; those before
     /// it are written.
     #[inline(always)]
     pub fn fill(
@@ -204,8 +204,8 @@ impl ManagedHeap {
         Ok(())
     }
 
-    /// Stores these registers in the first references of an object that was found, up to the first that can't be stored
-    /// in one go. Returns how many are stored.
+    /// Stores these registers in the first references of an object that was found, up to the first that can't be
+    /// stored at once. Returns how many are stored.
     #[inline(always)]
     fn store_first(
         &mut self,
@@ -227,8 +227,8 @@ impl ManagedHeap {
         sources.len()
     }
 
-    /// Writes the first data words of an object that was found, up to the first that can't be written in one go. Returns
-    /// how many are written.
+    /// Writes the first data words of an object that was found, up to the first that can't be written at once.
+    /// Returns how many are written.
     #[inline(always)]
     fn set_first(&mut self, found: FoundObject, thread: u32, object: u32, nums: &[u64]) -> usize
         requires found { FindsObject self.old thread object found }
@@ -243,7 +243,7 @@ impl ManagedHeap {
         nums.len()
     }
 
-    /// Fills the rest of an object of which the references before `stored` are written, by single steps.
+    /// Fills the rest of an object by single steps; its references before `stored` are written already.
     #[cold]
     #[inline(never)]
     fn fill_from(

@@ -1,4 +1,4 @@
-//! Marks by one worker, whole.
+//! Complete marks by one worker.
 
 ghost use Rattle.std.specs.Prelude.{◌≡◌};
 ghost use Rattle.managed.specs.Collecting.{IsCollecting, Marks, MarksRest, MarksScanned, EndsMark, EndsRest, EndsHere};
@@ -9,11 +9,11 @@ use crate::managed::ManagedHeap;
 use model::{Actor, Answer, Refusal, Reply, Step};
 
 impl ManagedHeap {
-    /// A whole mark, from its start: all threads cross, one worker scans all, and it ends. Gives how many
+    /// Runs a complete mark, from its start: all threads cross, one worker scans all, and it ends. Returns how many
     /// objects live.
     ///
-    /// Where it is refused as `NotCrossed` or `Pending`, for a thread with an open barrier, the mark has
-    /// begun; `finish_mark` goes on once that load is done.
+    /// If it fails with `NotCrossed` or `Pending`, because of a thread with an open barrier, the mark has begun;
+    /// `finish_mark` continues it once that load is done.
     pub fn mark(&mut self, worker: u32) -> Result<u64, Refusal>
         ensures goes { Goes (IsCollecting worker) self.old self.new }
         ensures stands { StandsUnseen self.old self.new }
@@ -31,7 +31,7 @@ impl ManagedHeap {
         }
     }
 
-    /// What is left of a mark that has begun.
+    /// Runs the rest of a mark that has begun. Returns how many objects live.
     pub fn finish_mark(&mut self, worker: u32) -> Result<u64, Refusal>
         ensures goes { Goes (IsCollecting worker) self.old self.new }
         ensures stands { StandsUnseen self.old self.new }
@@ -66,7 +66,7 @@ impl ManagedHeap {
     }
 }
 
-/// How many objects live, where a mark has ended.
+/// Returns how many objects live, if a mark has ended.
 fn live_of(reply: Reply) -> Result<u64, Refusal>
     ensures { result ≡ live_told reply }
 {

@@ -9,9 +9,9 @@ use cycle::Mutating;
 use model::{Actor, Refusal, Step};
 
 impl ManagedHeap {
-    /// Each thread that hasn't crossed the open checkpoint crosses it, if it has no open barrier; for a
-    /// parked one the worker does it. Answers `NotCrossed` with the least thread that hasn't crossed
-    /// then: it has an open barrier, or it is parked and there is no such worker.
+    /// Has each thread that hasn't crossed the open checkpoint cross it, if it has no open barrier; for a parked one
+    /// the worker does it. Fails with `NotCrossed` and the least thread that hasn't crossed then: it has an open
+    /// barrier, or it is parked and there is no such worker.
     pub fn cross_all(&mut self, worker: u32) -> Result<(), Refusal>
         ensures goes { Goes (IsCrossing worker) self.old self.new }
         ensures stands { StandsForSame self.old self.new }

@@ -1,6 +1,7 @@
-//! Several data words of an object by one call, whose tests are asked once.
+//! Several data words of an object by one call, whose tests run once.
 
-ghost use Rattle.std.specs.Prelude.{◌≡◌, ◌<◌, ◌+◌, ◌^◌, length, MatchResult};
+ghost use Rattle.std.specs.Prelude.{◌≡◌, ◌<◌, ◌≤◌, ◌+◌, ◌^◌, length, true, IfOk, MatchResult};
+ghost use Rattle.model.specs.declared.limits.TheConstants.{MOST_FIELDS};
 ghost use Rattle.managed.specs.Data.{EndsReading, EndsWriting, IsRun, LacksRun, ReadsRun, with_data};
 
 use crate::managed::ManagedHeap;
@@ -9,23 +10,31 @@ use heap::Heap;
 use model::{Refusal, Step};
 use refword::Addr;
 
-/// Where data words of an object stand, one behind the other.
+/// The place of consecutive data words of an object.
 #[derive(Clone, Copy)]
-struct Run {
+pub(crate) struct Run {
     /// The address of the object.
-    address: Addr,
-    /// How many words after it the first of them stands.
-    ahead: u64,
+    pub(crate) address: Addr,
+    /// How many words after it the first of them is.
+    pub(crate) ahead: u64,
 }
 
-/// Where `count` data words of an object stand, from one by its number on, if the thread may read and write
-/// them. There is one at least.
+/// Returns the place of `count` data words of an object, from word `first` on, if the thread may read and write
+/// them. `count` is at least 1.
 #[inline(always)]
-fn find_run(heap: &Heap, thread: u32, object: u32, first: u32, count: usize) -> Result<Run, Refusal>
+pub(crate) fn find_run(
+    heap: &Heap,
+    thread: u32,
+    object: u32,
+    first: u32,
+    count: usize,
+) -> Result<Run, Refusal>
     requires { 0 < count }
-    ensures { MatchResult result (IsRun heap.now thread object first count)
+    ensures run { MatchResult result (IsRun heap.now thread object first count)
         (LacksRun heap.now thread object first count) }
+    ensures few { IfOk result (λ _. count ≤ MOST_FIELDS) }
 {
+    heap.law();
     let step = Step::Datum {
         object,
         index: first,
@@ -50,10 +59,47 @@ fn find_run(heap: &Heap, thread: u32, object: u32, first: u32, count: usize) -> 
     })
 }
 
-/// Reads words one behind the other, from the one `ahead` words after an address on. Returns whether all are
-/// there.
+/// Reads consecutive words, from the one `ahead` words after an address on, if all are on the page of the address,
+/// which has memory and isn't protected. Returns whether it did; if not, `values` is unspecified.
 #[inline(always)]
-fn read_run(heap: &Heap, address: Addr, ahead: u64, values: &mut [u64]) -> bool
+fn read_on_page(heap: &Heap, address: Addr, ahead: u64, values: &mut [u64]) -> bool
+    requires { ahead + length values.old < 2 ^ 17 }
+    ensures len { length values.new ≡ length values.old }
+    ensures words { result ≡ true → ReadsRun heap.now.store (address + ahead) values.new true }
+{
+    heap.law();
+    let memory = heap.memory();
+    let Some(frame) = memory.usable_frame(address.number()) else {
+        return false;
+    };
+    let Some(words) = memory.words_on(frame, address.number()) else {
+        return false;
+    };
+    let start = memory.offset_on(address.number()) + ahead as usize;
+    if start > words.len() || values.len() > words.len() - start {
+        return false;
+    }
+    values.copy_from_slice(&words[start..start + values.len()]);
+    true
+}
+
+/// Reads consecutive words, from the one `ahead` words after an address on. Returns whether all are there.
+#[inline(always)]
+pub(crate) fn read_run(heap: &Heap, address: Addr, ahead: u64, values: &mut [u64]) -> bool
+    requires { ahead + length values.old < 2 ^ 17 }
+    ensures len { length values.new ≡ length values.old }
+    ensures words { ReadsRun heap.now.store (address + ahead) values.new result }
+{
+    if read_on_page(heap, address, ahead, values) {
+        return true;
+    }
+    read_by_words(heap, address, ahead, values)
+}
+
+/// As `read_run`, word by word.
+#[cold]
+#[inline(never)]
+fn read_by_words(heap: &Heap, address: Addr, ahead: u64, values: &mut [u64]) -> bool
     requires { ahead + length values.old < 2 ^ 17 }
     ensures len { length values.new ≡ length values.old }
     ensures words { ReadsRun heap.now.store (address + ahead) values.new result }
@@ -69,9 +115,22 @@ fn read_run(heap: &Heap, address: Addr, ahead: u64, values: &mut [u64]) -> bool
     true
 }
 
-/// Writes words one behind the other, from the one `ahead` words after an address on.
+/// Writes consecutive words, from the one `ahead` words after an address on.
 #[inline(always)]
-fn write_run(heap: &mut Heap, address: Addr, ahead: u64, values: &[u64])
+pub(crate) fn write_run(heap: &mut Heap, address: Addr, ahead: u64, values: &[u64])
+    requires { ahead + length values.now < 2 ^ 17 }
+    ensures { heap.new ≡ with_data heap.old (address + ahead) values.now }
+{
+    if heap.raw_set_words_behind(address, ahead, values) {
+        return;
+    }
+    write_by_words(heap, address, ahead, values);
+}
+
+/// As `write_run`, word by word.
+#[cold]
+#[inline(never)]
+fn write_by_words(heap: &mut Heap, address: Addr, ahead: u64, values: &[u64])
     requires { ahead + length values.now < 2 ^ 17 }
     ensures { heap.new ≡ with_data heap.old (address + ahead) values.now }
 {
@@ -81,11 +140,10 @@ fn write_run(heap: &mut Heap, address: Addr, ahead: u64, values: &[u64])
 }
 
 impl ManagedHeap {
-    /// Reads data words of the object that a register names, from word `first` on, as many as there is room
-    /// for in `values`: as that many calls of `datum`, with one look at the object.
+    /// Reads data words of the object that a register names, from word `first` on, until `values` is full: as a call
+    /// of `datum` for each, but the object is looked up once.
     ///
-    /// Fails as `datum` does of one of them, with `BadIndex` if the object has fewer; nothing is said of
-    /// `values` then.
+    /// Fails as `datum` does for one of them, with `BadIndex` if the object has fewer; `values` is unspecified then.
     #[inline(always)]
     pub fn get_many(
         &self,
@@ -110,11 +168,10 @@ impl ManagedHeap {
         Ok(())
     }
 
-    /// Writes data words of the object that a register names, from word `first` on: as a call of `set_datum`
-    /// for each of `values`, in order, with one look at the object.
+    /// Writes data words of the object that a register names, from word `first` on: as a call of `set_datum` for
+    /// each of `values`, in order, but the object is looked up once.
     ///
-    /// Fails as `set_datum` does of one of them, with `BadIndex` if the object has fewer; nothing is written
-    /// then.
+    /// Fails as `set_datum` does for one of them, with `BadIndex` if the object has fewer; nothing is written then.
     #[inline(always)]
     pub fn set_many(
         &mut self,

@@ -1,4 +1,4 @@
-//! Pages that one worker empties, whole.
+//! Pages that one worker empties completely.
 
 ghost use Rattle.std.specs.Prelude.{◌≡◌, IfOk, Ok};
 ghost use Rattle.model.specs.Checkpoints.{all_crossed};
@@ -13,12 +13,12 @@ use cycle::Mutating;
 use model::{Actor, PageList, Refusal, Reply, Step};
 
 impl ManagedHeap {
-    /// Empties complete pages, given by their numbers from 1: protects them, has all threads cross, copies
-    /// each page's objects and releases its frame. After that no register names a page that was emptied, but
-    /// for those of parked threads and of threads with an open barrier.
+    /// Empties complete pages, given by their numbers from 1: protects them, has all threads cross, copies each
+    /// page's objects and releases its frame. After that no register names a page that was emptied, except those of
+    /// parked threads and of threads with an open barrier.
     ///
-    /// If `Protect` fails, or is out of memory, nothing is done. If a thread has an open barrier the call
-    /// returns `NotCrossed`, and `finish_emptying` goes on once that load is done.
+    /// If `Protect` fails, or is out of memory, nothing is done. If a thread has an open barrier the call fails with
+    /// `NotCrossed`, and `finish_emptying` continues once that load is done.
     pub fn empty(&mut self, worker: u32, pages: Vec<u32>) -> Result<(), Refusal>
         ensures goes { Goes (IsCollecting worker) self.old self.new }
         ensures stands { StandsUnseen self.old self.new }
@@ -93,8 +93,8 @@ impl ManagedHeap {
         Ok(())
     }
 
-    /// Empties one protected page, by its number from 1: all of its objects are copied that weren't, and
-    /// its frame is given up.
+    /// Empties one protected page, by its number from 1: copies those of its objects that aren't copied, and
+    /// releases its frame.
     pub fn empty_page(&mut self, worker: u32, page: u32) -> Result<(), Refusal>
         ensures { EndsPage worker self.old page result self.new }
     {
@@ -113,7 +113,7 @@ impl ManagedHeap {
     }
 }
 
-/// Whether a step was accepted.
+/// Returns whether a step was accepted.
 fn whether(reply: Reply) -> Result<(), Refusal>
     ensures { result ≡ whether_told reply }
 {
@@ -123,7 +123,7 @@ fn whether(reply: Reply) -> Result<(), Refusal>
     }
 }
 
-/// The pages that a step protects.
+/// Returns the pages that a step protects.
 fn pages_of(step: &Step) -> &[u32]
     ensures { result.now ≡ pages_in step.now }
 {

@@ -1,4 +1,5 @@
-//! Steps on an object that was found, so that several of them take one look at it; and a step on one alone.
+//! Steps on an object that was found, so that several of them look it up once; and single steps that are done at
+//! once or not at all.
 
 ghost use Rattle.std.specs.Prelude.{◌≡◌, ◌≢◌, IfSome, Ok};
 ghost use Rattle.cycle.specs.Mutating.{ThreadStands};
@@ -14,8 +15,8 @@ use crate::managed::ManagedHeap;
 use heap::FoundObject;
 
 impl ManagedHeap {
-    /// The object that a register of a thread names, by their numbers from 0, if the thread runs, its barrier is closed,
-    /// and it may use the object.
+    /// Returns the object that a register of a thread names, both numbered from 0, if the thread runs, its barrier
+    /// is closed, and it may use the object.
     #[inline(always)]
     pub(crate) fn find_object(&self, thread: u32, register: u32) -> Option<FoundObject>
         ensures { IfSome result (FindsObject self.now thread register) }
@@ -24,7 +25,8 @@ impl ManagedHeap {
         self.heap().find_object(thread, register)
     }
 
-    /// What registers name has its place on a page and in the tables. It does nothing: its contract is the law.
+    /// Proves that what registers name has its place on a page and in the tables. It does nothing: its contract is
+    /// the law.
     fn sound(&self)
         ensures { AreWhole self.now }
     {
@@ -33,8 +35,8 @@ impl ManagedHeap {
         refinement::naming_law();
     }
 
-    /// A complete load of a reference of an object that was found, if no test refuses it and no trap is due. Returns
-    /// whether it is done; else nothing is.
+    /// Does a complete load of a reference of an object that was found, if no test rejects it and no trap is due.
+    /// Returns whether it did; if not, nothing is done.
     #[inline(always)]
     pub(crate) fn read_found(
         &mut self,
@@ -54,8 +56,8 @@ impl ManagedHeap {
         self.heap.load_found(found, thread, target, object, field)
     }
 
-    /// A register's reference is stored in a field of an object that was found, if no test refuses it. Returns whether
-    /// it is; else nothing is done.
+    /// Stores a register's reference in a field of an object that was found, if no test rejects it. Returns whether
+    /// it did; if not, nothing is done.
     #[inline(always)]
     pub(crate) fn store_found(
         &mut self,
@@ -75,8 +77,8 @@ impl ManagedHeap {
         self.heap.store_found(found, thread, object, field, source)
     }
 
-    /// A data word of an object that was found is written, if no test refuses it. Returns whether it is; else nothing is
-    /// done.
+    /// Writes a data word of an object that was found, if no test rejects it. Returns whether it did; if not,
+    /// nothing is done.
     #[inline(always)]
     pub(crate) fn set_datum_found(
         &mut self,
@@ -96,8 +98,8 @@ impl ManagedHeap {
             .set_datum_found(found, thread, object, index, value)
     }
 
-    /// A complete load of a reference in one go, if no test refuses it and no trap is due. Returns whether it is done;
-    /// else nothing is, and `read` loads it by its steps.
+    /// Does a complete load of a reference at once, if no test rejects it and no trap is due. Returns whether it
+    /// did; if not, nothing is done, and `read` loads it by its steps.
     #[inline(always)]
     pub fn read_at_once(&mut self, thread: u32, target: u32, object: u32, field: u32) -> bool
         ensures { MayLoadWhole result self.old thread (steps.Load target object field) self.new }
@@ -108,8 +110,8 @@ impl ManagedHeap {
         self.read_found(found, thread, target, object, field)
     }
 
-    /// A reference is stored in one go, if no test refuses it. Returns whether it is; else nothing is done, and `store`
-    /// says why.
+    /// Stores a reference at once, if no test rejects it. Returns whether it did; if not, nothing is done, and
+    /// `store` returns why.
     #[inline(always)]
     pub fn store_at_once(&mut self, thread: u32, object: u32, field: u32, source: u32) -> bool
         ensures { MayStep result self.old thread (steps.Store object field source) self.new }
@@ -120,7 +122,7 @@ impl ManagedHeap {
         self.store_found(found, thread, object, field, source)
     }
 
-    /// A data word of an object, if no test refuses it; else `datum` says why.
+    /// Returns a data word of an object, if no test rejects it; if one does, `datum` returns why.
     #[inline(always)]
     pub fn datum_at_once(&self, thread: u32, object: u32, index: u32) -> Option<u64>
         ensures gives { IfSome result (GivesDatum self.now thread object index) }
@@ -134,7 +136,8 @@ impl ManagedHeap {
         Some(value)
     }
 
-    /// Whether two registers of a thread name the same object, or both none, if no test refuses it; else `same` says why.
+    /// Returns whether two registers of a thread name the same object, or both none, if no test rejects it; if one
+    /// does, `same` returns why.
     #[inline(always)]
     pub fn same_at_once(&self, thread: u32, left: u32, right: u32) -> Option<bool>
         ensures gives { IfSome result (GivesSame self.now thread left right) }
@@ -147,8 +150,8 @@ impl ManagedHeap {
         Some(truth)
     }
 
-    /// The header of the object that a register of a thread names, by their numbers from 0, if the thread runs, its
-    /// barrier is closed, and it may use the object.
+    /// Returns the header of the object that a register of a thread names, both numbered from 0, if the thread runs,
+    /// its barrier is closed, and it may use the object.
     #[inline(always)]
     pub fn header_at_once(&self, thread: u32, register: u32) -> Option<u64>
         ensures { IfSome result (NamesHeader self.now thread register) }
@@ -158,8 +161,8 @@ impl ManagedHeap {
         Some(header)
     }
 
-    /// A data word of an object is written in one go, if no test refuses it. Returns whether it is; else nothing is
-    /// done, and `set_datum` says why.
+    /// Writes a data word of an object at once, if no test rejects it. Returns whether it did; if not, nothing is
+    /// done, and `set_datum` returns why.
     #[inline(always)]
     pub fn set_datum_at_once(&mut self, thread: u32, object: u32, index: u32, value: u64) -> bool
         ensures { MayStep result self.old thread (steps.SetDatum object index value) self.new }

@@ -1,13 +1,13 @@
-//! A heap with its theorem, for as many steps as a program likes (ours).
+//! A heap whose type guarantees the theorem, for any number of steps.
 //!
-//! A `ManagedHeap` is a heap that accepted steps have made of the first heap of its configuration.
-//! It stands for the plain heap that these steps make of an empty one, which never moves or frees
-//! an object, and each step has answered what that plain heap answers. This is the invariant of the
-//! type, and the history of the steps is in the proof alone. A program changes it by the calls
-//! here, by `Mutating` and by `step`; it reads it by `heap`, which lends no edit.
+//! A `ManagedHeap` is the result of accepted steps from the first heap of its configuration. It represents the
+//! reference model after these steps, which never moves or frees an object, and each step has returned the answer of
+//! that model. This is the invariant of the type; the history of the steps exists only in the proof. A program
+//! changes it by the calls here, by `Mutating` and by `step`; it reads it by `heap`, which allows no edit.
 #![tactic(auto)]
 
 mod batches;
+mod bytewise;
 mod collecting;
 mod crossing;
 mod data;
@@ -19,6 +19,7 @@ mod mutating;
 mod preparing;
 mod scanning;
 mod scrubbing;
+mod transfer;
 
 pub use batches::{FieldLoad, LoadsFault};
 pub use cycle::{Mutating, Stepping};

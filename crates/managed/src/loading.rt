@@ -1,4 +1,4 @@
-//! Whole loads.
+//! Complete loads.
 
 ghost use Rattle.std.specs.Prelude.{◌≡◌};
 ghost use Rattle.model.specs.declared.steps.Step.TheVariants as steps;
@@ -10,7 +10,7 @@ use cycle::{MOST_TRAPS, Mutating, heal_is_due};
 use model::{Refusal, Trap};
 
 impl ManagedHeap {
-    /// Of three traps one is clear, if none is refused. It does nothing: its contract is the law.
+    /// Proves that of three traps one is clear, if none is rejected. It does nothing: its contract is the law.
     fn three_traps(&self, thread: u32)
         ensures { TrapsLeft 3 self.now thread }
     {
@@ -18,7 +18,7 @@ impl ManagedHeap {
         self.heap().law();
     }
 
-    /// A trap. True where it is clear.
+    /// Does a trap. Returns true if it is clear.
     #[inline(always)]
     fn trap_is_clear(&mut self, thread: u32) -> Result<bool, Refusal>
         ensures goes { Goes (IsInBarrier thread) self.old self.new }
@@ -32,8 +32,8 @@ impl ManagedHeap {
         }
     }
 
-    /// Ends a load whose trap is clear: its place is healed, where the word was corrected and the place
-    /// wasn't healed yet, and the load ends. Neither is refused then.
+    /// Ends a load whose trap is clear: heals its place, if the word was corrected and the place wasn't healed yet,
+    /// and finishes. Neither is rejected then.
     fn finish_read(&mut self, thread: u32) -> Result<(), Refusal>
         requires { IsClear self.old thread }
         ensures { EndsLoad self.old thread result self.new }
@@ -48,8 +48,8 @@ impl ManagedHeap {
         }
     }
 
-    /// Ends a load that has begun: traps until one is clear, heals where the word was corrected, and
-    /// finishes. It is refused only as `trap` is then.
+    /// Ends a load that has begun: traps until one is clear, heals if the word was corrected, and finishes. It fails
+    /// only as `trap` does then.
     fn end_by_traps(&mut self, thread: u32) -> Result<(), Refusal>
         ensures { EndsLoad self.old thread result self.new }
     {
@@ -64,10 +64,10 @@ impl ManagedHeap {
         unreachable!()
     }
 
-    /// Ends a load that has begun: finishes at once where nothing is due, as most loads do; else traps
-    /// until one is clear, heals where the word was corrected, and finishes. It is refused only as `trap`
-    /// is then: `NoActor`, `Parked`, `NotBusy` where no load is open, or `Stall` where the object is about
-    /// to be copied. The steps before that are done, and it may be asked again.
+    /// Ends a load that has begun: finishes at once if nothing is due, as for most loads; else traps until one is
+    /// clear, heals if the word was corrected, and finishes. It fails only as `trap` does then: with `NoActor`,
+    /// `Parked`, `NotBusy` if no load is open, or `Stall` if the object is about to be copied. The steps before that
+    /// are done, and it may be called again.
     #[inline(always)]
     pub fn end_read(&mut self, thread: u32) -> Result<(), Refusal>
         ensures { EndsLoad self.old thread result self.new }
@@ -78,7 +78,7 @@ impl ManagedHeap {
         }
     }
 
-    /// A complete load of a field by its steps.
+    /// Does a complete load of a field by its steps.
     #[cold]
     #[inline(never)]
     fn read_by_steps(
@@ -95,7 +95,7 @@ impl ManagedHeap {
         self.end_read(thread)
     }
 
-    /// Loads a reference field of an object into a register, whole. Refused as `load` or as `end_read` is.
+    /// Loads a reference field of an object into a register, completely. Fails as `load` or as `end_read` does.
     #[inline(always)]
     pub fn read(&mut self, thread: u32, target: u32, object: u32, field: u32) -> Result<(), Refusal>
         ensures loads { LoadsWhole self.old thread (steps.Load target object field) result self.new }
@@ -107,8 +107,8 @@ impl ManagedHeap {
         }
     }
 
-    /// A complete load of a global in one go, if no test refuses it and no trap is due. Returns whether it is
-    /// done; else nothing is.
+    /// Does a complete load of a global at once, if no test rejects it and no trap is due. Returns whether it did;
+    /// if not, nothing is done.
     #[inline(always)]
     #[tactic(auto, using(crate::proofs::AtOnce::may_load_global_whole))]
     fn read_global_at_once(&mut self, thread: u32, target: u32, global: u32) -> bool
@@ -119,7 +119,7 @@ impl ManagedHeap {
         self.heap.load_global_at_once(thread, target, global)
     }
 
-    /// A complete load of a global by its steps.
+    /// Does a complete load of a global by its steps.
     #[cold]
     #[inline(never)]
     fn read_global_by_steps(&mut self, thread: u32, target: u32, global: u32) -> Result<(), Refusal>
@@ -130,7 +130,7 @@ impl ManagedHeap {
         self.end_read(thread)
     }
 
-    /// Loads a global into a register, whole. Refused as `load_global` or as `end_read` is.
+    /// Loads a global into a register, completely. Fails as `load_global` or as `end_read` does.
     #[inline(always)]
     pub fn read_global(&mut self, thread: u32, target: u32, global: u32) -> Result<(), Refusal>
         ensures loads { LoadsWhole self.old thread (steps.LoadGlobal target global) result self.new }

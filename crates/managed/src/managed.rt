@@ -1,4 +1,4 @@
-//! The heap that a program holds.
+//! The managed heap.
 
 ghost use Rattle.std.specs.Prelude.{◌≡◌};
 ghost use Rattle.model.specs.Refusing.{DoesStep};
@@ -9,10 +9,10 @@ ghost use Rattle.managed.specs.Managing.{MakesHeap, Promises};
 use cycle::Stepping;
 use heap::{Config, Heap, NewFault};
 use model::{Actor, Reply, Step};
-use std::alloc::Global;
+use std::alloc::{AllocError, Global};
 use std::marker::Model;
 
-/// A heap that stands for a plain heap: what a program holds.
+/// A heap that represents a reference model, as its type guarantees.
 #[derive(Drop)]
 pub struct ManagedHeap {
     pub(crate) heap: Heap,
@@ -31,10 +31,10 @@ impl Model for ManagedHeap {
 }
 
 impl ManagedHeap {
-    /// What holds of every managed heap: there is a history of accepted steps that have made it of the
-    /// first heap of its configuration; each answer is what the plain heap answers there; it stands for
-    /// the plain heap that the history makes; and no register that may be used names a page without
-    /// memory. It changes nothing and never fails.
+    /// Proves what holds for every managed heap: a history of accepted steps has made it of the first heap of its
+    /// configuration; each answer is that of the reference model; the heap represents the reference model that the
+    /// history makes; and no register that may be used names a page without memory. It changes nothing and never
+    /// fails.
     pub fn law(&self)
         ensures { Promises self.now }
     {
@@ -42,7 +42,7 @@ impl ManagedHeap {
         let _ = &self.heap;
     }
 
-    /// The first heap of a configuration. Faults as `Heap::new` does.
+    /// Makes the first heap of a configuration. Fails as `Heap::new` does.
     pub fn new(alloc: Global, config: Config) -> Result<ManagedHeap, NewFault>
         ensures { MakesHeap config result }
     {
@@ -53,29 +53,41 @@ impl ManagedHeap {
         }
     }
 
-    /// The heap as it stands, for all that reads it.
+    /// Returns the heap in its current state, for reading.
     pub fn heap(&self) -> &Heap
         ensures { result.now ≡ self.now }
     {
         &self.heap
     }
 
-    /// How many frames' memory is kept for the next pages: of frames that became free, at most as many as are
-    /// free.
+    /// Returns how many frames' memory is kept for the next pages: of frames that became free, at most as many as
+    /// are free, and what `prepare_frame` has added.
     pub fn kept_frames(&self) -> usize {
         self.heap.kept_frames()
     }
 
-    /// Gives memory of free frames back to the allocator, but for that of `most` frames. Memory of frames that
-    /// became free is kept for the next pages until then. Nothing of the heap changes.
+    /// Allocates memory for one more frame and keeps it, cleared, for the next pages, unless that of `most` frames or
+    /// more is kept. Returns false if so. Fails only if out of memory. The state of the heap stays.
+    pub fn prepare_frame(&mut self, most: usize) -> Result<bool, AllocError>
+        ensures { self.new ≡ self.old }
+    {
+        if self.heap.kept_frames() >= most {
+            return Ok(false);
+        }
+        self.heap.prepare_frame()?;
+        Ok(true)
+    }
+
+    /// Releases the memory of free frames to the allocator, except that of `most` frames. Until then, memory of
+    /// frames that became free is kept for the next pages. The state of the heap stays.
     pub fn trim(&mut self, most: usize)
         ensures { self.new ≡ self.old }
     {
         self.heap.trim(most);
     }
 
-    /// One step of an actor, as `Stepping::step` does it. It answers `Memory` for `Take` and `Protect` alone, where
-    /// memory for a fresh page or for a growth was refused, and changes nothing then.
+    /// Does one step of an actor, as `Stepping::step` does. It fails with `Memory` for `Take` and `Protect` alone,
+    /// if out of memory for a fresh page or for a growth, and changes nothing then.
     #[inline(always)]
     pub fn step(&mut self, actor: Actor, step: &Step) -> Reply
         ensures does { DoesStep self.old step.now result self.new (outcome self.old actor step.now) }

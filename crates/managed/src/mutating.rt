@@ -12,7 +12,7 @@ use cycle::Mutating;
 use model::{Buffer, Refusal, Trap};
 
 impl ManagedHeap {
-    /// A reference is stored by all tests in their order, which tell why it isn't.
+    /// Stores a reference by all tests in their order, which determine the error.
     #[cold]
     #[inline(never)]
     #[tactic(auto, using(crate::proofs::Running::managed_thread))]
@@ -29,7 +29,7 @@ impl ManagedHeap {
         Mutating::store(&mut self.heap, thread, object, field, source)
     }
 
-    /// A data word is read by all tests in their order, which tell why it isn't.
+    /// Reads a data word by all tests in their order, which determine the error.
     #[cold]
     #[inline(never)]
     fn datum_by_tests(&self, thread: u32, object: u32, index: u32) -> Result<u64, Refusal>
@@ -39,7 +39,7 @@ impl ManagedHeap {
         Mutating::datum(&self.heap, thread, object, index)
     }
 
-    /// Registers are compared by all tests in their order, which tell why they aren't.
+    /// Compares registers by all tests in their order, which determine the error.
     #[cold]
     #[inline(never)]
     fn same_by_tests(&self, thread: u32, left: u32, right: u32) -> Result<bool, Refusal>
@@ -49,7 +49,7 @@ impl ManagedHeap {
         Mutating::same(&self.heap, thread, left, right)
     }
 
-    /// A data word is written by all tests in their order, which tell why it isn't.
+    /// Writes a data word by all tests in their order, which determine the error.
     #[cold]
     #[inline(never)]
     #[tactic(auto, using(crate::proofs::Running::managed_thread))]

@@ -1,4 +1,4 @@
-//! What a worker does before it may scan objects whole (ours).
+//! What a worker does before it may scan complete objects.
 
 ghost use Rattle.std.specs.Prelude.{◌≡◌, ◌<◌, ◌≤◌, true, MatchBool, is_some};
 ghost use Rattle.std.specs.List.{list_any};
@@ -15,9 +15,9 @@ use drains::may_scan;
 use model::{Actor, Step};
 
 impl ManagedHeap {
-    /// A worker is made ready to scan objects whole, where a mark runs that all threads have crossed: the
-    /// object that it has is scanned to its end, and the pages of which objects are still to be copied are
-    /// copied whole. Elsewhere nothing is done, and no scan of this worker would be accepted.
+    /// Makes a worker ready to scan complete objects, if a mark runs that all threads have crossed: scans the object
+    /// that it has to its end, and copies the pages that have uncopied objects. Otherwise nothing is done, and no
+    /// scan of this worker would be accepted.
     pub fn prepare(&mut self, worker: u32)
         ensures goes { Goes (IsDrain worker) self.old self.new }
         ensures stands { StandsForSame self.old self.new }
@@ -36,9 +36,9 @@ impl ManagedHeap {
         }
     }
 
-    /// A part of that: the object that the worker has is scanned to its end; where it has none, one page is
-    /// copied whole. True where something was done; false where nothing is left of it. How much a part does
-    /// is no clause, and tested (`trials_holding::marks`).
+    /// Does a part of `prepare`: scans the object that the worker has to its end; if it has none, copies one page
+    /// completely. Returns true if something was done; false if nothing of it is left. How much a part does is
+    /// tested (`test_collecting::marks`), in no clause.
     pub fn prepare_some(&mut self, worker: u32) -> bool
         ensures { Prepares worker self.old result self.new }
     {
@@ -52,7 +52,7 @@ impl ManagedHeap {
         }
     }
 
-    /// Whether a mark runs that all threads have crossed, and a worker is there.
+    /// Returns whether a mark runs that all threads have crossed, and a worker is there.
     fn may_work(&self, worker: u32) -> bool
         ensures { MatchBool result (MayWork worker self.now) (ScansNothing worker self.now) }
     {
@@ -63,7 +63,7 @@ impl ManagedHeap {
         }
     }
 
-    /// Whether a worker is there, and has an object.
+    /// Returns whether a worker is there, and has an object.
     fn has_object(&self, worker: u32) -> bool
         ensures { result ≡ is_some (scan_of self.now worker) }
     {
@@ -73,7 +73,7 @@ impl ManagedHeap {
         }
     }
 
-    /// The next field of the object that a worker has is scanned, or that object ends.
+    /// Scans the next field of the object that a worker has, or ends that object.
     fn scan_field(&mut self, worker: u32)
         requires work { MayWork worker self.old }
         requires busy { is_some (scan_of self.old worker) ≡ true }
@@ -83,7 +83,7 @@ impl ManagedHeap {
         let _ = self.step(Actor::Worker(worker), &Step::ScanField);
     }
 
-    /// The object that a worker has is scanned to its end. It is true.
+    /// Scans the object that a worker has to its end. Returns true.
     fn finish_object(&mut self, worker: u32) -> bool
         requires work { MayWork worker self.old }
         requires busy { is_some (scan_of self.old worker) ≡ true }
@@ -94,7 +94,7 @@ impl ManagedHeap {
         true
     }
 
-    /// The object that a worker has is scanned to its end, where it has one.
+    /// Scans the object that a worker has to its end, if it has one.
     fn finish_fields(&mut self, worker: u32)
         requires { MayWork worker self.old }
         ensures goes { Goes (IsDrain worker) self.old self.new }
@@ -108,8 +108,7 @@ impl ManagedHeap {
         }
     }
 
-    /// A page, by its number from 1, is copied whole, where objects of it are still to be copied; whether
-    /// they were.
+    /// Copies a page completely, by its number from 1, if it has uncopied objects. Returns whether it had.
     fn copy_left(&mut self, worker: u32, page: u32) -> bool
         requires free { IsFree worker self.old }
         requires low { 0 < page }
@@ -124,7 +123,7 @@ impl ManagedHeap {
         true
     }
 
-    /// A page of which objects are still to be copied is copied whole.
+    /// Copies a page that has uncopied objects completely.
     fn copy_there(&mut self, worker: u32, page: u32)
         requires free { IsFree worker self.old }
         requires low { 0 < page }
@@ -137,7 +136,7 @@ impl ManagedHeap {
         let _ = self.step(Actor::Worker(worker), &Step::CopyPage(page));
     }
 
-    /// All such pages are copied.
+    /// Copies all pages that have uncopied objects.
     fn copy_all_left(&mut self, worker: u32)
         requires { IsFree worker self.old }
         ensures goes { Goes (IsDrain worker) self.old self.new }
@@ -153,7 +152,7 @@ impl ManagedHeap {
         self.heap().law();
     }
 
-    /// The first such page is copied; whether there was one.
+    /// Copies the first page that has uncopied objects. Returns whether there was one.
     fn copy_next(&mut self, worker: u32) -> bool
         requires { IsFree worker self.old }
         ensures { Prepares worker self.old result self.new }

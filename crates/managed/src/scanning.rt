@@ -13,10 +13,9 @@ use drains::{Portion, drain, drain_some, is_ready};
 use model::{Actor, Refusal};
 
 impl ManagedHeap {
-    /// At most so many steps of a worker that scan: the object that it has, then the globals, then the
-    /// object with the least address that no worker has. True where nothing is left that no other
-    /// worker has; false where so many steps were done. It stops at the first refusal; the steps before it
-    /// are done.
+    /// Does up to `most` scan steps of a worker: of the object that it has, then of the globals, then of the object
+    /// with the least address that no worker has. Returns true if nothing is left but what other workers have; false
+    /// if `most` steps were done. It stops at the first step that fails; the steps before it are done.
     pub fn scan(&mut self, worker: u32, most: u64) -> Result<bool, Refusal>
         ensures goes { Goes (IsScan worker) self.old self.new }
         ensures stands { StandsForSame self.old self.new }
@@ -43,9 +42,9 @@ impl ManagedHeap {
         Ok(false)
     }
 
-    /// A worker that is ready scans objects whole, at most so many, until none is left that no other
-    /// worker has, as one call; it answers how many. `drains::is_ready` tells whether it is ready. Where
-    /// it answers fewer than the most, nothing is left. Each object takes time by its references.
+    /// Scans up to `most` complete objects, until nothing is left but what other workers have, as one call; the
+    /// worker is ready, as `drains::is_ready` returns. Returns how many objects were scanned; if fewer than `most`,
+    /// nothing is left. The time for each object is linear in its references.
     pub fn scan_objects(&mut self, worker: u32, most: u64) -> u64
         requires { IsReady self.old worker }
         ensures objects { ScansObjects worker result self.old self.new }
@@ -57,9 +56,9 @@ impl ManagedHeap {
         drain(&mut self.heap, worker, most)
     }
 
-    /// A portion of that, in which also the references are bounded (ours): it stops behind the object with
-    /// which so many were scanned, as well. An object has at most 1,023 references. Where it may scan any
-    /// object and reference, it scans one, or nothing is left.
+    /// As `scan_objects`, but also bounds the references: it also stops after the object with which `references`
+    /// were scanned. An object has at most 1,023 references. If both bounds are above 0, it scans at least one
+    /// object, or nothing is left.
     pub fn scan_portion(&mut self, worker: u32, most: u64, references: u64) -> Portion
         requires { IsReady self.old worker }
         ensures objects { ScansObjects worker result.objects self.old self.new }
@@ -72,9 +71,9 @@ impl ManagedHeap {
         drain_some(&mut self.heap, worker, most, references)
     }
 
-    /// A whole drain: what is left to be copied of protected pages is copied, and then it scans until nothing
-    /// is left that no other worker has, object by object. Where no scan of the worker is accepted, it is
-    /// refused as the next one would be. It answers `TodoLeft` where 2^64 - 1 objects weren't all.
+    /// Does a complete mark drain: copies the uncopied objects of protected pages, and then scans object by object
+    /// until nothing is left but what other workers have. If no scan of the worker is accepted, it fails as the next
+    /// one would. It fails with `TodoLeft` if 2^64 - 1 objects weren't all.
     pub fn drain(&mut self, worker: u32) -> Result<(), Refusal>
         ensures goes { Goes (IsDrain worker) self.old self.new }
         ensures stands { StandsForSame self.old self.new }

@@ -1,4 +1,4 @@
-//! Registers that name protected pages are corrected.
+//! Correction of registers that name protected pages.
 
 ghost use Rattle.std.specs.Prelude.{◌≡◌, ◌<◌, ℕ, true, false};
 ghost use Rattle.model.specs.Phases.{is_protect_crossing};
@@ -10,9 +10,9 @@ use cycle::Mutating;
 use model::Phase;
 
 impl ManagedHeap {
-    /// Corrects each register that names a page which is being emptied or was: after that none does. Parked
-    /// threads and threads with an open barrier keep their registers as they are, and while a thread has
-    /// still to cross the checkpoint of protected pages no register is corrected.
+    /// Corrects each register that names a page which is being emptied or was: after that none does. Parked threads
+    /// and threads with an open barrier keep their registers, and until all threads have crossed the checkpoint of
+    /// protected pages no register is corrected.
     pub fn scrub_all(&mut self)
         ensures goes { Goes IsScrub self.old self.new }
         ensures scrubbed { is_protect_crossing self.old.phase ≡ false → AreScrubbed self.new }
@@ -58,7 +58,8 @@ impl ManagedHeap {
     }
 }
 
-/// Whether registers name no protected page anyway: there is none, or a mark runs that all threads have crossed.
+/// Returns whether registers name no protected page anyway: there is none, or a mark runs that all threads have
+/// crossed.
 fn needs_no_scrub(phase: Phase) -> bool
     ensures { result ≡ needs_no_scrub phase }
 {

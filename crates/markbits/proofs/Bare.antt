@@ -1,4 +1,4 @@
--- A bit that is cleared where none is set.
+-- Clearing a bit if none is set.
 use Rattle.std.proofs.Common.{◌≡◌, ℕ, zero, suc, Bool, true, false, List, [], ◌∷◌, Option, Some, None, refl, sym, ◌∙◌}
 use Rattle.std.proofs.Common.{ap, subst, arith, count_by, set}
 use Rattle.std.specs.List.{slice_get}

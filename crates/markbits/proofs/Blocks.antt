@@ -1,4 +1,4 @@
--- The index of a row's blocks of 64 places.
+-- The index of a bitmap's blocks of 64 places.
 use Rattle.std.proofs.Common.{◌≡◌, ℕ, ◌+◌, ◌-◌, ◌*◌, ◌/◌, ◌%◌, ◌^◌, ◌<◌, ◌≤◌, Bool, true, false, List, length, take}
 use Rattle.std.proofs.Common.{get_or, set, Option, Some, None, refl, sym, ◌∙◌, ap, inl, inr, arith, length-set, w64}
 use Rattle.std.proofs.Common.{get_or-set_same, get_or-set_other, true≢false}

@@ -1,4 +1,4 @@
--- The index of rows that have a bit.
+-- The index of bitmaps that have a bit set.
 use Rattle.std.proofs.Common.{◌≡◌, ℕ, zero, suc, ◌+◌, ◌<◌, Bool, false, not, cond, List, [], ◌∷◌, map}
 use Rattle.std.proofs.Common.{replicate, set}
 use Rattle.std.proofs.Common.{count_by, Option, Some, None, refl, sym, ◌∙◌, ap, subst, arith}

@@ -6,3 +6,4 @@ pub mod Bare
 pub mod Blocks
 pub mod Ranks
 pub mod Lows
+pub mod Cleared

@@ -1,4 +1,4 @@
--- The word before which no bit of a row is set.
+-- The word before which no bit of a bitmap is set.
 use Rattle.std.proofs.Common.{◌≡◌, ℕ, ◌+◌, ◌*◌, ◌/◌, ◌%◌, ◌^◌, ◌<◌, ◌≤◌, Bool, true, false, List, length, replicate}
 use Rattle.std.proofs.Common.{get_or, set, eqb, Option, Some, None, refl, sym, ◌∙◌, ap, subst, inl, inr, arith}
 use Rattle.std.proofs.Common.{get_or-set_same, get_or-set_other}

@@ -1,4 +1,4 @@
--- Tables of rows.
+-- Tables of bitmaps.
 use Rattle.std.proofs.Common.{◌≡◌, ℕ, ◌+◌, ◌<◌, Bool, count_by, List, [], ◌∷◌, ◌++◌, length, map, take, drop, get_or}
 use Rattle.std.proofs.Common.{set, sym}
 use Rattle.std.proofs.Common.{◌∙◌, ap, arith, length-set}

@@ -1,4 +1,4 @@
--- The bits that words spell: their list, how many are set, and one that is flipped or written.
+-- The bits in words: their list, how many are set, and one that is flipped or written.
 use Rattle.std.proofs.Common.{◌≡◌, ℕ, suc, zero, ◌+◌, ◌-◌, ◌*◌, ◌/◌, ◌%◌, ◌^◌, ◌<◌, ◌≤◌, Bool, true, false, not}
 use Rattle.std.proofs.Common.{cond, eqb, List, length, replicate, take, get_or, set, refl, sym, ◌∙◌, ap, inl, inr}
 use Rattle.std.proofs.Common.{arith, ext_get_or, length-set, get_or-set_same, get_or-set_other, eq-eqb, ne_eqb}

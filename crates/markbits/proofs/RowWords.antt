@@ -1,4 +1,4 @@
--- Rows of bits as words: the next bit, the rank, and what the functions of a row answer.
+-- Bitmaps as words: the next bit, the rank, and the results of a bitmap's functions.
 use Rattle.std.proofs.Common.{◌≡◌, ℕ, suc, zero, ◌+◌, ◌-◌, ◌*◌, ◌/◌, ◌%◌, ◌^◌, ◌<◌, ◌≤◌, min, Bool, true, false, not}
 use Rattle.std.proofs.Common.{eqb, List, length, replicate, take, get_or, set, refl, sym, ◌∙◌, ap, subst, inl, inr}
 use Rattle.std.proofs.Common.{arith, eq-eqb, ne_eqb, w64}

@@ -1,11 +1,11 @@
--- Rows with an index of those that have a bit set.
+-- Bitmaps with an index of those that have a bit set.
 use Rattle.std.specs.Prelude.{ℕ, Bool, not, List, count_by, Option, Some, None, slice_set, ◌==◌}
 
--- a row has a bit that is set
+-- a bitmap has a bit that is set
 abbrev pub has_bits : List Bool → Bool
 has_bits row = not (count_by (λ b. b) row == 0)
 
--- an index with the entry of number i as a row that may be missing has it
+-- an index whose entry i is updated to a bitmap, if there is one
 abbrev pub settle : List Bool → ℕ → Option (List Bool) → List Bool
 settle busy i None = busy
 settle busy i (Some row) = slice_set busy i (has_bits row)

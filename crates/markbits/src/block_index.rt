@@ -1,21 +1,21 @@
-//! The index of a long row's blocks.
+//! The index of a long bitmap's blocks.
 
 ghost use Rattle.std.specs.Prelude.{◌≡◌, replicate, false, IfOk};
 ghost use Rattle.model.specs.Bits.{put_bit};
 ghost use Rattle.markbits.specs.Words.{IsNextPlace};
 
-use crate::rows::Row;
+use crate::word_row::WordRow;
 use std::alloc::{AllocError, Global};
 use std::marker::Model;
 
-/// A row of bits, one for each block of 64 bits of a longer row. It has an index of its own, so that of
-/// 1,048,576 bits of the longer row a search looks at four words of that index at most. A contract sees the
-/// list of the bits.
+/// A bitmap with one bit for each block of 64 bits of a longer bitmap. It has an index of its own, so that for a
+/// longer bitmap of 1,048,576 bits a search reads at most four words of that index. A contract sees the list of the
+/// bits.
 #[derive(Debug, Drop)]
 pub(crate) struct BlockIndex {
-    row: Row,
-    /// Bit `i` is set where one of the bits of the row from `64 * i` to `64 * i + 63` is.
-    groups: Row,
+    row: WordRow,
+    /// Bit `i` is set if any bit of `row` from `64 * i` to `64 * i + 63` is.
+    groups: WordRow,
 }
 
 impl Model for BlockIndex {
@@ -30,16 +30,16 @@ impl Model for BlockIndex {
 }
 
 impl BlockIndex {
-    /// So many bits, all clear. Fails only by memory.
+    /// Returns `bits` clear bits. Fails only if out of memory.
     pub(crate) fn new(alloc: Global, bits: u32) -> Result<BlockIndex, AllocError>
         ensures { IfOk result (λ b. b ≡ replicate bits false) }
     {
-        let row = Row::new(alloc, bits)?;
-        let groups = Row::new(alloc, bits.div_ceil(64))?;
+        let row = WordRow::new(alloc, bits)?;
+        let groups = WordRow::new(alloc, bits.div_ceil(64))?;
         Ok(BlockIndex { row, groups })
     }
 
-    /// Sets or clears a bit, if the row goes that far.
+    /// Sets or clears a bit, if the bitmap is that long.
     pub(crate) fn put(&mut self, index: usize, bit: bool)
         ensures { self.new ≡ put_bit index bit self.old }
     {
@@ -49,7 +49,7 @@ impl BlockIndex {
         self.groups.put(group, has_bit);
     }
 
-    /// The first place from an index on where a bit is set, if there is one.
+    /// Returns the first place from an index on whose bit is set, or `None`.
     pub(crate) fn next_from(&self, index: usize) -> Option<u32>
         ensures { IsNextPlace self.now index result }
     {

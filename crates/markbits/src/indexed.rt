@@ -1,4 +1,4 @@
-//! Rows with an index of those that have a bit set.
+//! Bitmaps with an index of those that have a bit set.
 
 ghost use Rattle.std.specs.Prelude.{◌≡◌, replicate, slice_get, slice_set, map, false, [], IfOk, ◌==◌};
 ghost use Rattle.std.specs.Option.{option_copied};
@@ -12,12 +12,12 @@ use crate::rows::{Row, Rows};
 use std::alloc::{AllocError, Global};
 use std::marker::Model;
 
-/// A row for each page that has a record, by the record's index, as `Rows` are. Rows that have a bit
-/// are found without a look at the others.
+/// A bitmap for each page that has a record, by the record's index, as in `Rows`. Bitmaps that have a bit set are
+/// found without reading the others.
 #[derive(Debug, Drop)]
 pub struct IndexedRows {
     rows: Rows,
-    /// Bit `i` is set where row `i` has a bit.
+    /// Bit `i` is set if bitmap `i` has a bit set.
     busy: IndexedRow,
 }
 
@@ -32,8 +32,8 @@ impl Model for IndexedRows {
     ghost invariant = { λ r. r.busy ≡ map has_bits r.rows };
 }
 
-/// Sets the entry of an index as the row of this index has it, if there is one. Mostly it is as it
-/// is to be.
+/// Sets an entry of the index to whether the bitmap of that index has a bit set, if it exists. Mostly the entry is
+/// right already.
 #[inline(always)]
 #[tactic(auto, using(crate::proofs::Busy::settled_before))]
 fn settle(busy: &mut IndexedRow, rows: &Rows, index: usize)
@@ -48,7 +48,7 @@ fn settle(busy: &mut IndexedRow, rows: &Rows, index: usize)
 }
 
 impl IndexedRows {
-    /// So many empty rows: in a heap at most 1,048,575. Fails only by memory.
+    /// Returns `count` empty bitmaps: in a heap at most 1,048,575. Fails only if out of memory.
     #[tactic(auto, using(crate::proofs::Busy::none_busy))]
     pub fn new(alloc: Global, count: u32) -> Result<IndexedRows, AllocError>
         ensures { IfOk result (λ r. r ≡ replicate count []) }
@@ -58,22 +58,22 @@ impl IndexedRows {
         Ok(IndexedRows { rows, busy })
     }
 
-    /// The row of an index from 0, if it is there.
+    /// Returns the bitmap of an index from 0, if it exists.
     pub fn get(&self, index: usize) -> Option<&Row>
         ensures { option_copied result ≡ slice_get self.now index }
     {
         self.rows.get(index)
     }
 
-    /// Whether the bit of an offset of a page is set, by the page's number from 1: its row has the
-    /// index below. Where there is no such row or bit, none is.
+    /// Returns whether the bit of an offset of a page is set, by the page's number from 1: the index of its bitmap is
+    /// one less. Returns false if there is no such bitmap or bit.
     pub fn bit_on(&self, page: u64, offset: u32) -> bool
         ensures { result ≡ bit_on self.now page offset }
     {
         self.rows.bit_on(page, offset)
     }
 
-    /// Whether no bit is set in any row.
+    /// Returns whether no bit is set in any bitmap.
     #[tactic(auto, using(crate::proofs::Busy::none_counted))]
     pub fn is_empty(&self) -> bool
         ensures { result ≡ (bit_count self.now == 0) }
@@ -81,15 +81,14 @@ impl IndexedRows {
         self.busy.count() == 0
     }
 
-    /// The first row from an index on that has a bit, by its index from 0.
+    /// Returns the index, from 0, of the first bitmap from an index on that has a bit set, or `None`.
     pub fn next_busy(&self, index: usize) -> Option<u32>
         ensures { IsNextPlace (map has_bits self.now) index result }
     {
         self.busy.next_from(index)
     }
 
-    /// Sets or clears a bit of a row, if it is there. Where the bit is as it is to be, that is all
-    /// that is looked at.
+    /// Sets or clears a bit of a bitmap, if it exists. If the bit has that value already, nothing else is read.
     #[tactic(auto, using(crate::proofs::Busy::settled, crate::proofs::Busy::put_again))]
     pub fn put(&mut self, index: usize, offset: usize, bit: bool)
         ensures { self.new ≡ change_at self.old index (put_bit offset bit) }
@@ -103,7 +102,7 @@ impl IndexedRows {
         settle(&mut self.busy, &self.rows, index);
     }
 
-    /// Clears a bit of a row, if it is there. Where no bit is set in any row that is one test.
+    /// Clears a bit of a bitmap, if it exists. If no bit is set in any bitmap, this costs one test.
     #[inline(always)]
     #[tactic(auto, using(crate::proofs::Bare::none_unset))]
     pub fn unset(&mut self, index: usize, offset: usize)
@@ -114,7 +113,7 @@ impl IndexedRows {
         }
     }
 
-    /// Puts a row in the place of another, if there is one of this index.
+    /// Replaces the bitmap of an index, if it exists.
     #[tactic(auto, using(crate::proofs::Busy::settled_placed))]
     pub fn place(&mut self, index: usize, row: Row)
         ensures { self.new ≡ slice_set self.old index row }
@@ -123,7 +122,7 @@ impl IndexedRows {
         settle(&mut self.busy, &self.rows, index);
     }
 
-    /// Gives up the bits of a row, if it is there: it is empty then, and takes no memory.
+    /// Frees the bits of a bitmap, if it exists: it is then empty, and takes no memory.
     #[tactic(auto, using(crate::proofs::Busy::settled_placed))]
     pub fn give_up(&mut self, index: usize)
         ensures { self.new ≡ slice_set self.old index [] }

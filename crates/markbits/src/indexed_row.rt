@@ -1,4 +1,4 @@
-//! A row with an index of its words that have a bit set.
+//! A bitmap with an index of its words that have a bit set.
 
 ghost use Rattle.std.specs.Prelude.{◌≡◌, ◌<◌, ◌^◌, replicate, slice_index_or, false, IfOk, count_by};
 ghost use Rattle.model.specs.Bits.{put_bit};
@@ -6,16 +6,16 @@ ghost use Rattle.markbits.specs.Words.{IsNextPlace};
 ghost use Rattle.markbits.specs.Blocks.{IsIndex};
 
 use crate::block_index::BlockIndex;
-use crate::rows::Row;
+use crate::word_row::WordRow;
 use std::alloc::{AllocError, Global};
 use std::marker::Model;
 
-/// A row of bits as `Row` is, in which the next bit is found without a look at words that have none.
-/// A contract sees the list of the bits.
+/// A bitmap like `Row`, in which the next set bit is found without reading words that have none. A contract sees the
+/// list of the bits.
 #[derive(Debug, Drop)]
 pub struct IndexedRow {
-    row: Row,
-    /// Bit `i` is set where one of the bits of the row from `64 * i` to `64 * i + 63` is.
+    row: WordRow,
+    /// Bit `i` is set if any bit of `row` from `64 * i` to `64 * i + 63` is.
     blocks: BlockIndex,
 }
 
@@ -31,16 +31,16 @@ impl Model for IndexedRow {
 }
 
 impl IndexedRow {
-    /// So many bits, all clear: in a heap at most 1,048,575. Fails only by memory.
+    /// Returns `bits` clear bits: in a heap at most 1,048,575. Fails only if out of memory.
     pub fn new(alloc: Global, bits: u32) -> Result<IndexedRow, AllocError>
         ensures { IfOk result (λ r. r ≡ replicate bits false) }
     {
-        let row = Row::new(alloc, bits)?;
+        let row = WordRow::new(alloc, bits)?;
         let blocks = BlockIndex::new(alloc, bits.div_ceil(64))?;
         Ok(IndexedRow { row, blocks })
     }
 
-    /// How many bits are set.
+    /// Returns how many bits are set.
     pub fn count(&self) -> usize
         ensures value { result ≡ count_by (λ b. b) self.now }
         ensures range { result < 2 ^ 32 }
@@ -48,7 +48,7 @@ impl IndexedRow {
         self.row.count()
     }
 
-    /// Whether a bit is set; past the end of the row none is.
+    /// Returns whether a bit is set; past the end of the bitmap none is.
     #[inline(always)]
     pub fn test(&self, offset: usize) -> bool
         ensures { result ≡ slice_index_or self.now offset false }
@@ -56,7 +56,7 @@ impl IndexedRow {
         self.row.test(offset)
     }
 
-    /// Sets or clears a bit, if the row goes that far.
+    /// Sets or clears a bit, if the bitmap is that long.
     pub fn put(&mut self, offset: usize, bit: bool)
         ensures { self.new ≡ put_bit offset bit self.old }
     {
@@ -66,8 +66,8 @@ impl IndexedRow {
         self.blocks.put(block, has_bit);
     }
 
-    /// The first place from an offset on where a bit is set, if there is one; none from the row's
-    /// end on. It looks at two words of the row, and at those of the index that its own index names.
+    /// Returns the first place from an offset on whose bit is set, or `None`; there is none from the bitmap's end on.
+    /// It reads two words of the bitmap, and those of the index that its own index names.
     pub fn next_from(&self, offset: usize) -> Option<u32>
         ensures { IsNextPlace self.now offset result }
     {

@@ -1,5 +1,4 @@
-//! Rows of bits for the words of pages: where objects start, and which are live, marked, or still
-//! to be scanned. All of it is ours.
+//! Bitmaps with a bit for each word of a page: where objects start, and which are live, marked or grey.
 #![tactic(auto)]
 
 mod block_index;
@@ -7,6 +6,7 @@ mod indexed;
 mod indexed_row;
 mod ranked_row;
 mod rows;
+mod word_row;
 
 pub use indexed::IndexedRows;
 pub use indexed_row::IndexedRow;

@@ -1,4 +1,4 @@
-//! A row in which set bits are counted from one number and one word.
+//! A bitmap in which set bits are counted by one number and one word.
 
 ghost use Rattle.std.specs.Prelude.{◌≡◌, ◌+◌, ◌-◌, ◌*◌, ◌<◌, ◌≤◌, length, slice_index_or, [], IfOk, false};
 ghost use Rattle.markbits.specs.Ranks.{IsPlaceOf, IsRanked, rank_of};
@@ -7,8 +7,8 @@ use crate::rows::Row;
 use std::alloc::{AllocError, Global};
 use std::marker::Model;
 
-/// A row of bits that stay, with the number of bits that are set before each of its words. A
-/// contract sees the list of the bits.
+/// A bitmap that doesn't change, with the number of bits that are set before each of its words. A contract sees the
+/// list of the bits.
 #[derive(Debug, Drop)]
 pub struct RankedRow {
     row: Row,
@@ -27,8 +27,8 @@ impl Model for RankedRow {
     ghost invariant = { λ r. IsRanked r.row r.before.items };
 }
 
-/// How many bits of a row are set before the word of an index, by how many are before the word before
-/// it, if there is one.
+/// Returns how many bits are set before a word, by its index, given how many are set before the previous word, if
+/// there is one.
 fn rank_at(row: &Row, index: usize, last: u32) -> u32
     requires there { 64 * index ≤ length row.now }
     requires last { 0 < index → last ≡ rank_of row.now (64 * (index - 1)) }
@@ -41,7 +41,7 @@ fn rank_at(row: &Row, index: usize, last: u32) -> u32
     }
 }
 
-/// How many bits are set before each word of a row.
+/// Returns how many bits are set before each word of a bitmap.
 fn ranks(alloc: Global, row: &Row) -> Result<Vec<u32>, AllocError>
     ensures { IfOk result (λ v. IsRanked row.now v.items) }
 {
@@ -56,7 +56,7 @@ fn ranks(alloc: Global, row: &Row) -> Result<Vec<u32>, AllocError>
 }
 
 impl RankedRow {
-    /// A row whose bits stay as they are. Fails only by memory.
+    /// Returns a bitmap that keeps the bits of `row`. Fails only if out of memory.
     pub fn new(alloc: Global, row: Row) -> Result<RankedRow, AllocError>
         ensures { IfOk result (λ r. r ≡ row) }
     {
@@ -64,7 +64,7 @@ impl RankedRow {
         Ok(RankedRow { row, before })
     }
 
-    /// A row of no bits. It takes no memory.
+    /// Returns a bitmap of no bits. It takes no memory.
     pub fn empty(alloc: Global) -> RankedRow
         ensures { result ≡ [] }
     {
@@ -74,7 +74,7 @@ impl RankedRow {
         }
     }
 
-    /// The row.
+    /// Returns the plain bitmap.
     #[inline(always)]
     pub fn row(&self) -> &Row
         ensures { result.now ≡ self.now }
@@ -82,7 +82,7 @@ impl RankedRow {
         &self.row
     }
 
-    /// Whether a bit is set; past the end of the row none is.
+    /// Returns whether a bit is set; past the end of the bitmap none is.
     #[inline(always)]
     pub fn test(&self, offset: usize) -> bool
         ensures { result ≡ slice_index_or self.now offset false }
@@ -90,8 +90,8 @@ impl RankedRow {
         self.row.test(offset)
     }
 
-    /// How many bits are set below an offset; all of them from the row's end on. It looks at one
-    /// number and one word.
+    /// Returns how many bits are set below an offset; from the bitmap's end on, all of them. It reads one number and
+    /// one word.
     #[inline(always)]
     pub fn rank(&self, offset: usize) -> usize
         ensures { result ≡ rank_of self.now offset }
@@ -102,8 +102,8 @@ impl RankedRow {
         self.row.rank_within(offset, self.before[offset / 64]) as usize
     }
 
-    /// A place from which the set bit of a number is sought, and how many set bits from there on are
-    /// passed over: the head of the last word before which no more are set.
+    /// Returns a place from which to seek set bit `number`, and how many set bits to skip from there: the head of the
+    /// last word with at most `number` set bits before it.
     fn start(&self, number: usize) -> (usize, usize)
         ensures { rank_of self.now result.0 + result.1 ≡ number }
     {
@@ -120,7 +120,7 @@ impl RankedRow {
         self.start_at(low, number)
     }
 
-    /// The head of the word of an index, where no more bits are set before it; else that of the row.
+    /// Returns the head of word `index` if at most `number` bits are set before it; else that of the bitmap.
     fn start_at(&self, index: usize, number: usize) -> (usize, usize)
         ensures { rank_of self.now result.0 + result.1 ≡ number }
     {
@@ -135,7 +135,7 @@ impl RankedRow {
         (64 * index, number - below)
     }
 
-    /// As `start`: a place near which the bit may be, where it is one of the first two from there on.
+    /// Like `start`, but starts at `near` if the bit is one of the first two set bits from there on.
     #[inline(always)]
     fn start_near(&self, number: usize, near: usize) -> (usize, usize)
         ensures { rank_of self.now result.0 + result.1 ≡ number }
@@ -147,8 +147,8 @@ impl RankedRow {
         self.step_over(near, number - below)
     }
 
-    /// A place, and how many set bits from there on are passed over, where its own may be the first
-    /// of these: then the place behind it, and one fewer.
+    /// Skips the bit at a place if it is set and any are to be skipped: returns the next place, and one fewer to
+    /// skip.
     #[inline(always)]
     fn step_over(&self, place: usize, left: usize) -> (usize, usize)
         ensures { rank_of self.now result.0 + result.1 ≡ rank_of self.now place + left }
@@ -159,8 +159,8 @@ impl RankedRow {
         (place, left)
     }
 
-    /// The place of the set bit of a number, if so many are set: from a place on, so many are passed
-    /// over.
+    /// Returns the place of set bit `number`, or `None` if there is none, given a place and how many set bits to skip
+    /// from there.
     fn place_behind(&self, number: usize, start: (usize, usize)) -> Option<u32>
         requires { rank_of self.now start.0 + start.1 ≡ number }
         ensures { IsPlaceOf self.now number result }
@@ -176,15 +176,15 @@ impl RankedRow {
         None
     }
 
-    /// The place of the set bit of a number, from 0, if so many are set.
+    /// Returns the place of set bit `number`, from 0, or `None` if there is none.
     pub fn place(&self, number: usize) -> Option<u32>
         ensures { IsPlaceOf self.now number result }
     {
         self.place_behind(number, self.start(number))
     }
 
-    /// What `place` gives. It looks near a place first: where the bit is the first set one from there on,
-    /// or the second, it is found without a search, by one number and the words up to the bit.
+    /// Returns the same as `place`, but looks near a place first: if the bit is the first or second set bit from
+    /// there on, it is found without a search, by one number and the words up to the bit.
     pub fn place_near(&self, number: usize, near: usize) -> Option<u32>
         ensures { IsPlaceOf self.now number result }
     {

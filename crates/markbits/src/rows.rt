@@ -1,244 +1,179 @@
-//! Rows of bits, one bit for each word of a page.
+//! Bitmaps with one bit for each word of a page.
 
-ghost use Rattle.std.specs.Prelude.{◌≡◌, ℕ, ◌+◌, ◌-◌, ◌*◌, ◌/◌, ◌<◌, ◌≤◌, ◌^◌, length, replicate, take, slice_get};
+ghost use Rattle.std.specs.Prelude.{◌≡◌, ◌-◌, ◌*◌, ◌/◌, ◌<◌, ◌≤◌, ◌^◌, length, replicate, take, slice_get};
 ghost use Rattle.std.specs.Prelude.{slice_index_or, slice_set, Some, map, true, false, [], IfOk, count_by};
-ghost use Rattle.std.specs.Int.{div_ceil};
 ghost use Rattle.std.specs.Option.{option_copied};
 ghost use Rattle.model.specs.States.{change_at};
 ghost use Rattle.model.specs.declared.limits.TheConstants.{MOST_PAGES};
 ghost use Rattle.model.specs.Bits.{blank_row, put_bit, of_page, bit_on, bit_count};
-ghost use Rattle.markbits.specs.Words.{bit_of, IsNextPlace};
+ghost use Rattle.markbits.specs.Words.{IsNextPlace};
 ghost use Rattle.std.specs.Borrow.{sem};
 ghost use Rattle.markbits.specs.Lending.{LendsRow};
-ghost use Rattle.markbits.specs.Blocks.{IsNextInBlock};
 ghost use Rattle.markbits.specs.Ranks.{rank_of};
 
+use crate::word_row::WordRow;
 use std::alloc::{AllocError, Global};
 use std::marker::Model;
 use std::mem;
 
 /// A bit for each word of a page. A contract sees the list of them.
+///
+/// Clearing a bitmap costs the same however long it is: its words are cleared when a bit is set again.
 #[derive(Debug, Drop)]
 pub struct Row {
-    /// Bit `i` of the row is bit `i % 64` of word `i / 64`, and the bits from `len` on are clear.
-    words: Vec<u64>,
+    /// The bits; none if the bitmap was cleared and no bit was set since.
+    bits: WordRow,
+    /// The former bits, if `bits` has none.
+    spare: WordRow,
     len: u32,
-    /// How many bits are set.
-    total: u32,
-    /// No bit is set in the words before the one of this index, which is past all where none is.
-    low: u32,
 }
 
 impl Model for Row {
     ghost use Rattle.std.specs.Prelude.{List, Bool};
-    ghost use Rattle.markbits.specs.Words.{bits_of, IsRow, IsLow};
+    ghost use Rattle.markbits.specs.Cleared.{padded, AreThere};
 
     ghost Value = { List Bool };
 
-    ghost view = { λ r. bits_of r.len r.words.items };
+    ghost view = { λ r. padded r.len r.bits };
 
-    ghost invariant = { λ r. IsRow r.words.items r.len r.total × IsLow (bits_of r.len r.words.items) r.low };
-}
-
-/// The word before which no bit is set, after one of the word of an index is set.
-#[inline(always)]
-fn lower(low: &mut u32, index: u32)
-    ensures index { low.new ≤ index }
-    ensures low { low.new ≤ low.old }
-{
-    if index < *low {
-        *low = index;
-    }
-}
-
-/// The same, after one of that word is cleared, which leaves the word, and so many in all.
-#[inline(always)]
-fn raise(low: &mut u32, total: u32, word: u64, index: u32)
-    requires { index < 2 ^ 31 }
-    ensures { 0 < total → low.old < low.new → (word ≡ 0) × (index ≡ low.old) × (low.new ≡ low.old + 1) }
-{
-    if total == 0 {
-        *low = u32::MAX;
-    } else if word == 0 && index == *low {
-        *low += 1;
-    }
+    ghost invariant = { λ r. AreThere r.len r.bits r.spare };
 }
 
 impl Row {
-    /// So many bits, all clear: in a heap 16 to 32,768, the words of a page. Fails only by memory.
+    /// Returns a bitmap of `words` clear bits: in a heap 16 to 32,768, the words of a page. Fails only if out of
+    /// memory.
     pub fn new(alloc: Global, words: u32) -> Result<Row, AllocError>
         ensures { IfOk result (λ r. r ≡ replicate words false) }
     {
         Ok(Row {
-            words: vec![in alloc; 0u64; (words as usize).div_ceil(64)]?,
+            bits: WordRow::new(alloc, words)?,
+            spare: WordRow::empty(alloc),
             len: words,
-            total: 0,
-            low: u32::MAX,
         })
     }
 
-    /// A row of no bits. It takes no memory.
-    #[tactic(auto, unfolding(crate::specs::Words::bits_of))]
+    /// Returns a bitmap of no bits. It takes no memory.
     pub fn empty(alloc: Global) -> Row
         ensures { result ≡ [] }
     {
         Row {
-            words: Vec::new(alloc),
+            bits: WordRow::empty(alloc),
+            spare: WordRow::empty(alloc),
             len: 0,
-            total: 0,
-            low: u32::MAX,
         }
     }
 
-    /// A second row of the same bits. Fails only by memory.
+    /// Returns a copy of the bitmap. Fails only if out of memory.
     pub fn copy(&self, alloc: Global) -> Result<Row, AllocError>
         ensures { IfOk result (λ r. r ≡ self.now) }
     {
+        if self.bits.len() != self.len as usize {
+            return Row::new(alloc, self.len);
+        }
         Ok(Row {
-            words: Vec::from_slice(alloc, &self.words)?,
+            bits: self.bits.copy(alloc)?,
+            spare: WordRow::empty(alloc),
             len: self.len,
-            total: self.total,
-            low: self.low,
         })
     }
 
-    /// How many bits are set.
+    /// Returns how many bits are set.
+    #[tactic(auto, using(crate::proofs::Cleared::count_padded))]
     pub fn count(&self) -> usize
         ensures value { result ≡ count_by (λ b. b) self.now }
         ensures range { result < 2 ^ 32 }
     {
-        self.total as usize
+        self.bits.count()
     }
 
-    /// Whether a bit is set; past the end of the row none is.
+    /// Returns whether a bit is set; past the end of the bitmap none is.
     #[inline(always)]
+    #[tactic(auto, using(crate::proofs::Cleared::get_padded))]
     pub fn test(&self, offset: usize) -> bool
         ensures { result ≡ slice_index_or self.now offset false }
     {
-        offset < self.len as usize && (self.words[offset / 64] >> (offset % 64)) & 1 == 1
+        self.bits.test(offset)
     }
 
-    /// Sets or clears a bit, if the row goes that far.
+    /// Sets or clears a bit, if the bitmap is that long.
     #[inline(always)]
     pub fn put(&mut self, offset: usize, bit: bool)
         ensures { self.new ≡ put_bit offset bit self.old }
     {
-        if offset < self.len as usize && self.test(offset) != bit {
-            self.words[offset / 64] ^= 1u64 << (offset % 64);
-            let index = (offset / 64) as u32;
-            if bit {
-                lower(&mut self.low, index);
-                self.total += 1;
-            } else {
-                self.total -= 1;
-                raise(&mut self.low, self.total, self.words[offset / 64], index);
-            }
+        if !bit {
+            self.bits.put(offset, false);
+            return;
         }
+        if offset >= self.bits.len() {
+            self.set_cleared(offset);
+            return;
+        }
+        self.bits.put(offset, true);
     }
 
-    /// Sets a bit, and gives it as it was; none past the end of the row, where nothing is set.
+    /// Sets a bit of a bitmap that was cleared, if the bitmap is that long.
+    #[cold]
+    #[inline(never)]
+    fn set_cleared(&mut self, offset: usize)
+        ensures { self.new ≡ put_bit offset true self.old }
+    {
+        if offset < self.len as usize && offset >= self.bits.len() {
+            self.spare.clear();
+            mem::swap(&mut self.bits, &mut self.spare);
+        }
+        self.bits.put(offset, true);
+    }
+
+    /// Sets a bit and returns its former value. Past the end of the bitmap, sets nothing and returns `None`.
     #[inline(always)]
     pub fn set(&mut self, offset: usize) -> Option<bool>
         ensures was { result ≡ slice_get self.old offset }
         ensures row { self.new ≡ put_bit offset true self.old }
     {
-        if offset >= self.len as usize {
-            return None;
+        if offset >= self.bits.len() && offset < self.len as usize {
+            self.spare.clear();
+            mem::swap(&mut self.bits, &mut self.spare);
         }
-        let was = self.test(offset);
-        self.put(offset, true);
-        Some(was)
+        self.bits.set(offset)
     }
 
-    /// Clears a bit, if the row goes that far. A row in which none is set costs one test.
+    /// Clears a bit, if the bitmap is that long. If no bit is set, this costs one test.
     #[inline(always)]
-    #[tactic(auto, using(crate::proofs::Bare::bare_unset))]
     pub fn unset(&mut self, offset: usize)
         ensures { self.new ≡ put_bit offset false self.old }
     {
-        if self.count() != 0 {
-            self.put(offset, false);
-        }
+        self.bits.unset(offset);
     }
 
-    /// Clears all bits.
+    /// Clears all bits. It costs the same however many there are.
     pub fn clear(&mut self)
         ensures { self.new ≡ blank_row self.old }
     {
-        if self.total != 0 {
-            self.words.fill(0);
-            self.total = 0;
-            self.low = u32::MAX;
+        if self.bits.count() != 0 {
+            mem::swap(&mut self.bits, &mut self.spare);
         }
     }
 
-    /// The first place from an offset on where a bit is set, if there is one; none from the row's
-    /// end on.
+    /// Returns the first place from an offset on whose bit is set, or `None`; there is none from the bitmap's end on.
     #[inline(always)]
-    #[tactic(auto, using(crate::proofs::Blocks::found_in_block))]
+    #[tactic(auto, using(crate::proofs::Cleared::next_padded))]
     pub fn next_from(&self, offset: usize) -> Option<u32>
         ensures { IsNextPlace self.now offset result }
     {
-        if let Some(place) = self.next_in_block(offset) {
-            return Some(place);
-        }
-        self.next_by_words((offset / 64 + 1).max(self.low as usize))
+        self.bits.next_from(offset)
     }
 
-    /// The first place from the head of the word of an index on where a bit is set, if there is one.
-    fn next_by_words(&self, first: usize) -> Option<u32>
-        ensures { IsNextPlace self.now (64 * first) result }
-    {
-        if self.total == 0 {
-            return None;
-        }
-        for index in first..self.words.len() {
-            let word = self.words[index];
-            if word != 0 {
-                let place = index * 64 + word.trailing_zeros() as usize;
-                return Some(place as u32);
-            }
-        }
-        None
-    }
-
-    /// The first place from an offset on where a bit is set, if there is one in the word of the
-    /// offset.
-    #[inline(always)]
-    pub(crate) fn next_in_block(&self, offset: usize) -> Option<u32>
-        ensures { IsNextInBlock self.now offset result }
-    {
-        let index = offset / 64;
-        if index >= self.words.len() {
-            return None;
-        }
-        let word = self.words[index] & (u64::MAX << (offset % 64));
-        if word == 0 {
-            return None;
-        }
-        let place = index * 64 + word.trailing_zeros() as usize;
-        Some(place as u32)
-    }
-
-    /// How many bits are set below an offset; all of them from the row's end on.
+    /// Returns how many bits are set below an offset; from the bitmap's end on, all of them.
+    #[tactic(auto, using(crate::proofs::Cleared::rank_padded))]
     pub fn rank(&self, offset: usize) -> usize
         ensures { result ≡ count_by (λ b. b) (take offset self.now) }
     {
-        if offset >= self.len as usize {
-            return self.total as usize;
-        }
-        let mut below = 0;
-        for index in 0..offset / 64 {
-            let word = self.words[index];
-            below += word.count_ones() as usize;
-        }
-        let part = self.words[offset / 64] & ((1u64 << (offset % 64)) - 1);
-        below + part.count_ones() as usize
+        self.bits.rank(offset)
     }
 
-    /// The number of bits, set or not.
+    /// Returns the number of bits, set or not.
     #[inline(always)]
-    #[tactic(auto, using(crate::proofs::RowWords::row_length))]
+    #[tactic(auto, using(crate::proofs::Cleared::length_padded))]
     pub fn len(&self) -> usize
         ensures value { result ≡ length self.now }
         ensures range { result < 2 ^ 32 }
@@ -246,42 +181,36 @@ impl Row {
         self.len as usize
     }
 
-    /// How many bits are set below an offset in the row, by how many are below the offset's word.
+    /// Returns how many bits are set below an offset in the bitmap, given how many are set below the offset's word.
     #[inline(always)]
     pub(crate) fn rank_within(&self, offset: usize, below: u32) -> u32
         requires within { offset < length self.now }
         requires below { below ≡ rank_of self.now (64 * (offset / 64)) }
         ensures { result ≡ rank_of self.now offset }
     {
-        let mask = (1u64 << (offset % 64)) - 1;
-        let part = self.words[offset / 64] & mask;
-        below + part.count_ones()
+        if offset >= self.bits.len() {
+            return below;
+        }
+        self.bits.rank_within(offset, below)
     }
 
-    /// How many bits are set below the word of an index that isn't the first, by how many are below the
-    /// word before it.
+    /// Returns how many bits are set below a word that isn't the first, by its index, given how many are set below
+    /// the previous word.
     pub(crate) fn rank_word(&self, index: usize, below: u32) -> u32
         requires low { 0 < index }
         requires there { 64 * index ≤ length self.now }
         requires below { below ≡ rank_of self.now (64 * (index - 1)) }
         ensures { result ≡ rank_of self.now (64 * index) }
     {
-        below + self.words[index - 1].count_ones()
-    }
-
-    /// The row as words: its bit `i` is bit `i % 64` of word `i / 64`, and the other bits of the
-    /// words are clear.
-    #[tactic(auto, using(crate::proofs::RowWords::bit_is, crate::proofs::RowWords::row_length))]
-    pub fn words(&self) -> &[u64]
-        ensures len { length result.now ≡ div_ceil (length self.now) 64 }
-        ensures bits { (i : ℕ) → bit_of result.now i ≡ slice_index_or self.now i false }
-    {
-        &self.words
+        if index > self.bits.len() / 64 {
+            return below;
+        }
+        self.bits.rank_word(index, below)
     }
 }
 
-/// A row for each page that has a record, by the record's index. The row of a page that isn't used is
-/// empty, and takes no memory.
+/// A bitmap for each page that has a record, by the record's index. The bitmap of a page that isn't used is empty,
+/// and takes no memory.
 #[derive(Debug, Drop)]
 pub struct Rows {
     rows: Vec<Row>,
@@ -296,7 +225,7 @@ impl Model for Rows {
 }
 
 impl Rows {
-    /// So many empty rows: in a heap at most 1,048,575. Fails only by memory.
+    /// Returns `count` empty bitmaps: in a heap at most 1,048,575. Fails only if out of memory.
     pub fn new(alloc: Global, count: u32) -> Result<Rows, AllocError>
         ensures { IfOk result (λ r. r ≡ replicate count []) }
     {
@@ -307,15 +236,15 @@ impl Rows {
         Ok(Rows { rows })
     }
 
-    /// The row of an index from 0, if it is there.
+    /// Returns the bitmap of an index from 0, if it exists.
     pub fn get(&self, index: usize) -> Option<&Row>
         ensures { option_copied result ≡ slice_get self.now index }
     {
         self.rows.get(index)
     }
 
-    /// Whether the bit of an offset of a page is set, by the page's number from 1: its row has the
-    /// index below. Where there is no such row or bit, none is.
+    /// Returns whether the bit of an offset of a page is set, by the page's number from 1: the index of its bitmap is
+    /// one less. Returns false if there is no such bitmap or bit.
     pub fn bit_on(&self, page: u64, offset: u32) -> bool
         ensures { result ≡ bit_on self.now page offset }
     {
@@ -328,7 +257,7 @@ impl Rows {
         }
     }
 
-    /// How many bits are set in all rows, of which there are at most 1,048,575.
+    /// Returns how many bits are set in all bitmaps, of which there are at most 1,048,575.
     pub fn count(&self) -> u64
         requires { length self.now ≤ MOST_PAGES }
         ensures { result ≡ bit_count self.now }
@@ -341,7 +270,7 @@ impl Rows {
         total
     }
 
-    /// Sets or clears a bit of a row, if it is there.
+    /// Sets or clears a bit of a bitmap, if it exists.
     pub fn put(&mut self, index: usize, offset: usize, bit: bool)
         ensures { self.new ≡ change_at self.old index (put_bit offset bit) }
     {
@@ -351,7 +280,7 @@ impl Rows {
         }
     }
 
-    /// Sets a bit of a row, if it is there.
+    /// Sets a bit of a bitmap, if it exists.
     #[inline(always)]
     pub fn set(&mut self, index: usize, offset: usize)
         ensures { self.new ≡ change_at self.old index (put_bit offset true) }
@@ -362,7 +291,7 @@ impl Rows {
         }
     }
 
-    /// Clears a bit of a row, if it is there. In a row without a bit that is one test.
+    /// Clears a bit of a bitmap, if it exists. If the bitmap has no bit set, this costs one test.
     #[inline(always)]
     pub fn unset(&mut self, index: usize, offset: usize)
         ensures { self.new ≡ change_at self.old index (put_bit offset false) }
@@ -373,8 +302,8 @@ impl Rows {
         }
     }
 
-    /// Sets the bit of an offset of a page, by the page's number from 1, and gives it as it was; none
-    /// where there is no such row or bit. For page 0 the row of page 1 is set.
+    /// Sets the bit of an offset of a page, by the page's number from 1, and returns its former value, or `None` if
+    /// there is no such bitmap or bit. For page 0 the bitmap of page 1 is set.
     #[inline(always)]
     pub fn set_on(&mut self, page: u64, offset: u32) -> Option<bool>
         ensures was { result ≡ slice_get (of_page self.old page) offset }
@@ -389,8 +318,8 @@ impl Rows {
         if page == 0 { None } else { was }
     }
 
-    /// The row of an index from 0, which is there, to be changed. When the borrow ends, the table
-    /// has in its place what it was left as, and its other rows.
+    /// Borrows the bitmap of an index from 0, which exists, to change it. When the borrow ends, the table has the
+    /// changed bitmap in its place, and its other bitmaps unchanged.
     pub fn row_mut(&mut self, index: usize) -> &mut Row
         requires { index < length self.old }
         ensures* after { sem 𝓛 (LendsRow self.entry index result) }
@@ -399,7 +328,7 @@ impl Rows {
         &mut self.rows[index]
     }
 
-    /// Puts a row in the place of another, if there is one of this index.
+    /// Replaces the bitmap of an index, if it exists.
     pub fn place(&mut self, index: usize, row: Row)
         ensures { self.new ≡ slice_set self.old index row }
     {
@@ -408,7 +337,7 @@ impl Rows {
         }
     }
 
-    /// Gives up the bits of a row, if it is there: it is empty then, and takes no memory.
+    /// Frees the bits of a bitmap, if it exists: it is then empty, and takes no memory.
     pub fn give_up(&mut self, index: usize)
         ensures { self.new ≡ slice_set self.old index [] }
     {
@@ -416,7 +345,7 @@ impl Rows {
         self.place(index, empty);
     }
 
-    /// Clears all rows. Rows without a bit cost one test each, and nothing where all are clear.
+    /// Clears all bitmaps. One without a set bit costs one test.
     pub fn clear_all(&mut self)
         ensures { self.new ≡ map blank_row self.old }
     {
@@ -426,7 +355,7 @@ impl Rows {
         }
     }
 
-    /// Swaps all rows with those of another table.
+    /// Swaps all bitmaps with those of another table.
     pub fn swap(&mut self, other: &mut Rows)
         ensures here { self.new ≡ other.old }
         ensures there { other.new ≡ self.old }

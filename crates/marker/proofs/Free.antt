@@ -1,4 +1,4 @@
--- The least object that is still to be scanned is found page by page.
+-- The lowest grey object that no worker has is found page by page.
 use Rattle.std.proofs.Common.{◌≡◌, ◌≢◌, ◌⊎◌, inl, inr, ℕ, zero, suc, ◌+◌, ◌-◌, ◌*◌, ◌/◌, ◌%◌, ◌<◌, ◌≤◌, ◌&&◌, not, Bool}
 use Rattle.std.proofs.Common.{true}
 use Rattle.std.specs.Prelude.{slice_index_or, ◌==◌}
@@ -26,7 +26,7 @@ use Rattle.marker.specs.Free.{is_free_on, IsFirstFree, IsNextFree}
 use Rattle.markbits.specs.Indexing.{has_bits}
 use Rattle.markbits.specs.Words.{IsNextPlace, IsFirstFrom}
 
--- none of so many numbers from a on passes
+-- none of n numbers from a on passes
 find_none : (p : ℕ → Bool) (a n : ℕ) → ((x : ℕ) → a ≤ x → x < a + n → p x ≡ false) → find p (range_with_len a n) ≡ None
 find_none p a zero h = refl
 find_none p a (suc n) h = rw (h a (omega arith) (omega arith))
@@ -45,7 +45,7 @@ find_some p a (suc n) k low high here before = by_first (cases_eq a k)
     by_first (inl e) rest = rw (ap p e ∙ here) (ap Some e)
     by_first (inr e) rest = rw (before a (omega arith) (omega (arith, low, e))) (rest e)
 
--- what is free by its address is free in its page's row
+-- an object that is free by its address is free in its page's bitmap
 free_on_page : (h : HeapState) (page o : ℕ) → o < h.store.words
     → is_free_todo h (page * h.store.words + o) ≡ is_free_on h (of_page h.todo page) page o
 unfolding is_free_todo is_free_on
@@ -113,7 +113,7 @@ next_none h page e before = sym (find_none (is_free_todo h) h.store.words (lengt
     all : (length h.todo + 1) * h.store.words ≤ page * h.store.words
     all = mul-le-mul_right h.store.words e
 
--- pages and their rows
+-- pages and their bitmaps
 
 row_is : (todo : List (List Bool)) (n : ℕ) (o : Option (List Bool)) → n ≢ 0 → slice_get todo (n - 1) ≡ o
     → of_page todo n ≡ unwrap_or o []
@@ -123,7 +123,7 @@ row_is todo (suc i) o h e =
     sym (unwrap_or-slice_get todo i []) ∙ ap (λ k. unwrap_or (slice_get todo k) []) (sym back)
     ∙ ap (λ r. unwrap_or r []) e
 
--- nothing is free where there is no row
+-- nothing is free if there is no bitmap
 none_on : (h : HeapState) (row : List Bool) (page j : ℕ) → row ≡ [] → is_free_on h row page j ≡ false
 unfolding is_free_on
 none_on h row page j e = rw e refl
@@ -140,13 +140,13 @@ pub next_on_row : (h : HeapState) (page : ℕ) (row : List Bool) (r : Option ℕ
 next_on_row h page row r z e n =
     subst (λ (ws : List Bool). IsNextFree h ws page r) (sym (row_is h.todo page (Some row) z e)) n
 
--- what an index of rows says of each
+-- an index of a list has each element's value
 get_or_mapped : {X Y : Type 0} (f : X → Y) (xs : List X) (i : ℕ) (d : X) → get_or (map f xs) i (f d) ≡ f (get_or xs i d)
 get_or_mapped f [] i d = refl
 get_or_mapped f (x ∷ xs) zero d = refl
 get_or_mapped f (x ∷ xs) (suc i) d = get_or_mapped f xs i d
 
--- nothing is free on a page whose row has no bit
+-- nothing is free on a page whose bitmap is empty
 none_on_blank : (h : HeapState) (i j : ℕ) → slice_index_or (map has_bits h.todo) i false ≡ false
     → is_free_on h (of_page h.todo (i + 1)) (i + 1) j ≡ false
 unfolding is_free_on
@@ -167,7 +167,7 @@ none_on_blank h i j e = subst
     blank : get_or row j false ≡ false
     blank = none_counted row counted j
 
--- pages that are passed over
+-- pages that are skipped
 pub none_skipped : (h : HeapState) (from n to : ℕ) → to ≡ from + n → NoneBefore h (from + 1)
     → ((i : ℕ) → from ≤ i → i < to → slice_index_or (map has_bits h.todo) i false ≡ false) → NoneBefore h (to + 1)
 none_skipped h from zero to e before blank = subst (λ n. NoneBefore h (n + 1)) (omega (arith, e)) before
@@ -176,7 +176,7 @@ none_skipped h from (suc n) to e before blank =
     (none_more h (from + 1) before (λ j. none_on_blank h from j (blank from (omega arith) (omega (arith, e)))))
     (λ i low high. blank i (omega (arith, low)) high)
 
--- there is a row for each record, of no more bits than a page has words
+-- there is a bitmap for each record, of no more bits than a page has words
 pub rows_many : (h : HeapState) → IsStore h.store → IsHeap h → length h.todo ≡ length h.store.pages
 rows_many h s i = tables.rows_many h.store h.todo i.todo
 
@@ -190,7 +190,7 @@ row_size h page i low high =
       row_short h.store h.todo (page - 1) found.0 i.todo found.1,
     )
 
--- the next row that has a bit
+-- the next bitmap that has a bit set
 
 pub busy_is : (todo rows : List (List Bool)) (from index : ℕ) (r : Option ℕ) → rows ≡ todo → r ≡ Some index
     → IsNextPlace (map has_bits rows) from r → IsFirstFrom (map has_bits todo) from index
@@ -202,7 +202,7 @@ pub none_busy : (todo rows : List (List Bool)) (from : ℕ) (r : Option ℕ) →
 none_busy todo rows from r e f n = subst (λ (x : List (List Bool)). (j : ℕ) → from ≤ j
     → slice_index_or (map has_bits x) j false ≡ false) e (subst (IsNextPlace (map has_bits rows) from) f n)
 
--- it is there
+-- it exists
 pub busy_there : (todo : List (List Bool)) (i : ℕ) → slice_index_or (map has_bits todo) i false ≡ true → i < length todo
 busy_there todo i e = by_place (cases_lt i (length todo))
   where
@@ -211,7 +211,7 @@ busy_there todo i e = by_place (cases_lt i (length todo))
     by_place (inr m) = absurd (true≢false (sym e
         ∙ get_or_past (map has_bits todo) i false (omega (arith, m, length-map todo has_bits))))
 
--- an object is found on it
+-- a free object is found on the page
 pub found_on : (h : HeapState) (from i k : ℕ) → IsHeap h → NoneBefore h (from + 1)
     → IsFirstFrom (map has_bits h.todo) from i → IsFirstFree h (of_page h.todo (i + 1)) (i + 1) k
     → (k < h.store.words) × (Some ((i + 1) * h.store.words + k) ≡ next_todo h)
@@ -224,7 +224,7 @@ found_on h from i k d before busy first =
       next_is h (i + 1) k (omega arith) (omega (arith, there)) size skipped first,
     )
 
--- its page may have a number
+-- the page has a number in range
 pub on_page : (h : HeapState) (from i k a : ℕ) → IsStore h.store → IsHeap h
     → IsFirstFrom (map has_bits h.todo) from i
     → k < h.store.words → a ≡ (i + 1) * h.store.words + k → a / h.store.words ≤ MOST_PAGES
@@ -242,13 +242,13 @@ on_page h from i k a s d busy within is =
     few : (frames count : ℕ) → count ≤ MOST_PAGES → record_count frames count ≤ MOST_PAGES
     few frames count k = grind (arith, nat_tests)
 
--- none is found on it
+-- no free object is found on the page
 pub none_found_on : (h : HeapState) (from i : ℕ) → NoneBefore h (from + 1) → IsFirstFrom (map has_bits h.todo) from i
     → IsNextFree h (of_page h.todo (i + 1)) (i + 1) None → NoneBefore h (i + 1 + 1)
 none_found_on h from i before busy none = none_more h (i + 1)
     (none_skipped h from (i - from) i (omega (arith, busy.low)) before (λ j low high. busy.before j low high)) none
 
--- none is left
+-- no free object is left
 pub none_left : (h : HeapState) (from : ℕ) → NoneBefore h (from + 1)
     → ((j : ℕ) → from ≤ j → slice_index_or (map has_bits h.todo) j false ≡ false) → None ≡ next_todo h
 none_left h from before none = next_none h (from + length h.todo + 1) (omega arith)

@@ -1,4 +1,4 @@
--- What is known of the numbers of a worker's step, once the tests before its row are passed.
+-- The ranges of the numbers of a worker's step that passed the tests of all steps.
 use Rattle.std.proofs.Common.{ℕ, ◌≤◌, nat_lt, nat_eq}
 use Rattle.std.proofs.lemmas.Bool.{or_parts, ltb-false}
 use Rattle.model.specs.declared.steps.Step.TheVariants as steps
@@ -6,7 +6,7 @@ use Rattle.model.specs.States.{HeapState}
 use Rattle.model.specs.Outcome.{no_page, WorkerPasses}
 use Rattle.model.proofs.Passing.{worker_index}
 
--- the page of an object that is to be picked has a number of the heap's
+-- the page of an object that is to be picked has a number in range
 pub pick_high : (h : HeapState) (w page offset : ℕ) → WorkerPasses h w (steps.Pick page offset)
     → page ≤ h.store.count
 unfolding no_page

@@ -1,10 +1,10 @@
--- Objects that a worker may pick next.
+-- Grey objects that a worker may pick next.
 use Rattle.std.specs.Prelude.{◌≡◌, ℕ, ◌+◌, ◌*◌, ◌<◌, ◌&&◌, not, Bool, true, false, List, length, Option, Some, None}
 use Rattle.std.specs.Prelude.{slice_index_or}
 use Rattle.model.specs.States.{HeapState}
 use Rattle.model.specs.Scans.{is_taken}
 
--- the row of a page has an object at an offset that is still to be scanned, and no worker has it
+-- the bitmap of a page has a grey object at an offset, and no worker has it
 unfoldable pub is_free_on : HeapState → List Bool → ℕ → ℕ → Bool
 is_free_on h row page offset = slice_index_or row offset false && not (is_taken h (page * h.store.words + offset))
 

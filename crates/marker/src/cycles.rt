@@ -1,5 +1,4 @@
-//! A mark starts and ends (the paper's Mark phase; that pages close and are unused again at its end
-//! is told at each).
+//! Starting and ending a mark.
 
 ghost use Rattle.std.specs.Prelude.{◌≡◌};
 ghost use Rattle.std.specs.List.{list_any};
@@ -15,19 +14,18 @@ use crate::marks::may_scan;
 use heap::{Heap, RawCollectorEdits};
 use model::{Answer, Page, PageState, Phase, Refusal, Reply};
 
-/// Whether a mark may start in a phase.
+/// Returns whether a mark may start in a phase.
 fn may_start_mark(phase: Phase) -> bool
     ensures { result ≡ may_start_mark phase }
 {
     matches!(phase, Phase::Idle | Phase::Relocating)
 }
 
-/// A mark starts: the clean value of the NMT bit flips, all threads have still to cross its
-/// checkpoint, and all globals have still to be marked (the paper's Mark phase). Workers count from
-/// 0.
+/// Starts a mark: the clean NMT value flips, all threads count as not crossed, and all globals are grey. Workers
+/// count from
+/// 0. Objects of protected pages that are uncopied by then are copied when the mark meets them.
 ///
-/// Refused where a mark runs or pages are being protected (`Phase`). Objects of protected pages that
-/// aren't copied by then are copied where the mark meets them (ours).
+/// Fails with `Phase` while a mark runs or pages are being protected.
 #[tactic(auto, unfolding(model::specs::Cycles::start_mark_outcome))]
 pub fn start_mark(heap: &mut Heap, worker: u32) -> Reply
     requires { WorkerPasses heap.old worker steps.StartMark }
@@ -40,14 +38,14 @@ pub fn start_mark(heap: &mut Heap, worker: u32) -> Reply
     Ok(Answer::Done)
 }
 
-/// Whether some global has still to be marked.
+/// Returns whether some global is grey.
 fn has_todo_global(heap: &Heap) -> bool
     ensures { result ≡ list_any (λ g. g.todo) heap.now.globals }
 {
     heap.globals().iter().any(|global| global.todo)
 }
 
-/// Whether something has still to be scanned or marked.
+/// Returns whether some object or global is grey.
 #[tactic(auto, unfolding(model::specs::Cycles::has_todo))]
 fn has_todo(heap: &Heap) -> bool
     ensures { result ≡ has_todo heap.now }
@@ -55,14 +53,14 @@ fn has_todo(heap: &Heap) -> bool
     !heap.todo().is_empty() || has_todo_global(heap)
 }
 
-/// Whether a page is protected.
+/// Returns whether a page is protected.
 fn is_protected(page: &Page) -> bool
     ensures { result ≡ is_protected page.now.state }
 {
     matches!(page.state, PageState::From | PageState::Gone)
 }
 
-/// How many pages the end of a mark makes unused.
+/// Returns how many pages the end of the mark makes unused.
 #[tactic(auto, unfolding(model::specs::Cycles::retired_count))]
 fn retired_count(heap: &Heap) -> u64
     ensures { result ≡ retired_count heap.now }
@@ -74,14 +72,12 @@ fn retired_count(heap: &Heap) -> u64
         .count() as u64
 }
 
-/// A mark ends (ours): what it marked is live; open pages without a lent buffer close; protected
-/// pages are unused again and give up their frames (the paper's Remap phase: all references to them
-/// are corrected). It answers how many objects live, and how many pages became unused. Workers
-/// count from 0.
+/// Ends a mark: the marked objects are live; open pages without a lent buffer close; protected pages become unused
+/// and lose their frames, as no reference to them is left. The answer has the numbers of live objects and of pages
+/// that became unused. Workers count from 0.
 ///
-/// Refused where no mark runs (`Phase`), a thread hasn't crossed (`NotCrossed`), something has still
-/// to be scanned or marked (`TodoLeft`), or a thread has an open barrier (`Pending`, with the least
-/// such thread).
+/// Fails with `Phase` if no mark runs; `NotCrossed` if a thread hasn't crossed; `TodoLeft` if something is grey;
+/// `Pending`, with the lowest such thread, if a thread has an open barrier.
 #[tactic(auto, unfolding(model::specs::Cycles::end_mark_outcome))]
 pub fn end_mark(heap: &mut Heap, worker: u32) -> Reply
     requires { WorkerPasses heap.old worker steps.EndMark }
@@ -100,7 +96,7 @@ pub fn end_mark(heap: &mut Heap, worker: u32) -> Reply
     Ok(Answer::Ended { live, retired })
 }
 
-/// How many objects the running mark has marked.
+/// Returns how many objects the running mark has marked.
 fn live_count(heap: &Heap) -> u64
     ensures { result ≡ bit_count heap.now.mark }
 {

@@ -1,7 +1,4 @@
-//! Marks: they start, workers scan what is marked, and they end.
-//!
-//! The paper is Click, Tene and Wolf, "The Pauseless GC Algorithm" (VEE 2005). A comment that names
-//! one of its sections tells a rule of that section; all else is ours.
+//! Marks: their start, workers that scan grey objects and globals, and their end.
 #![tactic(auto)]
 
 mod cycles;

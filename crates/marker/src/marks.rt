@@ -1,4 +1,4 @@
-//! Words are marked (the paper's Mark phase).
+//! Marking references.
 
 ghost use Rattle.std.specs.Prelude.{◌≡◌};
 ghost use Rattle.model.specs.Marks.{with_mark, marked_word};
@@ -10,10 +10,9 @@ use model::Refusal;
 use refword::Word;
 use relocate::copy_for;
 
-/// Marks the object that a word names, and gives the word that marking leaves: it names the object
-/// where it is now, and is marked through (the paper's Mark and Remap phases). An object of a
-/// protected page is copied first where it wasn't (ours). The object is to be scanned where it wasn't
-/// marked before. Null marks nothing and stays null.
+/// Marks the object of a reference, and returns the corrected reference: it has the object's current address and the
+/// clean NMT value. An object of a protected page is copied first if it isn't copied. The object becomes grey if it
+/// wasn't marked before. Null marks nothing and stays null.
 pub fn mark(heap: &mut Heap, word: Word) -> Word
     ensures heap { heap.new ≡ with_mark (copied_for heap.old word) word }
     ensures word { result ≡ marked_word (copied_for heap.old word) word }
@@ -24,8 +23,7 @@ pub fn mark(heap: &mut Heap, word: Word) -> Word
     marked
 }
 
-/// Whether a mark runs that all threads have crossed. Refused as `Phase` where none runs, and as
-/// `NotCrossed`.
+/// Tests whether a mark runs that all threads have crossed. Fails with `Phase` if none runs, and with `NotCrossed`.
 #[tactic(auto, unfolding(model::specs::Scans::may_scan))]
 pub(crate) fn may_scan(heap: &Heap) -> Result<(), Refusal>
     ensures { result ≡ may_scan heap.now }

@@ -1,4 +1,4 @@
-//! What is left to be scanned (the paper's Mark phase; that the least object comes first is ours).
+//! Finding the next grey object.
 
 ghost use Rattle.std.specs.Prelude.{◌≡◌, ◌<◌, ◌≤◌, ◌/◌, length, IfSome};
 ghost use Rattle.model.specs.declared.limits.TheConstants.{MOST_PAGES};
@@ -10,8 +10,7 @@ use crate::scans::is_taken;
 use heap::{Heap, Row};
 use refword::Addr;
 
-/// The first offset of the row of a page at which an object is still to be scanned that no worker
-/// has.
+/// Returns the first offset in a page's grey bitmap whose object no worker has.
 #[tactic(auto, unfolding(crate::specs::Free::is_free_on))]
 fn next_free_on(heap: &Heap, row: &Row, page: u32) -> Option<u32>
     ensures { IsNextFree heap.now row.now page result }
@@ -28,7 +27,7 @@ fn next_free_on(heap: &Heap, row: &Row, page: u32) -> Option<u32>
     None
 }
 
-/// The same, of the row of a page by its number from 1, which has a record.
+/// Returns the same for a page that has a record, by its number from 1.
 fn next_on(heap: &Heap, page: u32) -> Option<u32>
     ensures { IsNextFree heap.now (of_page heap.now.todo page) page result }
 {
@@ -41,8 +40,8 @@ fn next_on(heap: &Heap, page: u32) -> Option<u32>
     }
 }
 
-/// The least address of an object that is still to be scanned and that no worker has, if there is
-/// one. It looks only at pages that have an object to be scanned, and in these only at such objects.
+/// Returns the lowest address of a grey object that no worker has, if there is one. It looks only at pages with a
+/// grey object, and in these only at grey objects.
 pub fn next_todo(heap: &Heap) -> Option<Addr>
     ensures first { result ≡ next_todo heap.now }
     ensures page { IfSome result (λ a. a / heap.now.store.words ≤ MOST_PAGES) }

@@ -1,6 +1,5 @@
-//! Workers scan: they mark what objects and globals refer to (the paper's Mark phase), and write
-//! each word back as marking leaves it (the paper's Remap phase). That a scan is cut into steps of
-//! one field each is ours.
+//! Scanning: workers mark the references of objects and globals, and write back each one corrected. A scan of an
+//! object is cut into steps of one field each.
 
 ghost use Rattle.std.specs.Prelude.{◌≡◌, ◌<◌, ◌≤◌, ◌*◌, ◌+◌, slice_get};
 ghost use Rattle.std.specs.Option.{option_copied};
@@ -17,7 +16,7 @@ use heap::{Heap, RawCollectorEdits, read_reference};
 use model::{Answer, Refusal, Reply, Scan};
 use refword::Word;
 
-/// What a worker scans, by its number from 0, if it scans anything.
+/// Returns what a worker scans, by its number from 0, if it scans anything.
 fn scan_of(heap: &Heap, worker: u32) -> Option<Scan>
     ensures { result ≡ scan_of heap.now worker }
 {
@@ -27,7 +26,7 @@ fn scan_of(heap: &Heap, worker: u32) -> Option<Scan>
     }
 }
 
-/// Whether a worker's scan is of the object at an address.
+/// Returns whether a worker's scan is of the object at an address.
 fn is_scan_of(address: u64, scan: Option<Scan>) -> bool
     ensures { result ≡ is_scan_of address scan }
 {
@@ -37,7 +36,7 @@ fn is_scan_of(address: u64, scan: Option<Scan>) -> bool
     }
 }
 
-/// Whether some worker has the object at an address.
+/// Returns whether some worker has the object at an address.
 #[tactic(auto, unfolding(model::specs::Scans::is_taken))]
 pub(crate) fn is_taken(heap: &Heap, address: u64) -> bool
     ensures { result ≡ is_taken heap.now address }
@@ -45,7 +44,7 @@ pub(crate) fn is_taken(heap: &Heap, address: u64) -> bool
     heap.workers().iter().any(|scan| is_scan_of(address, *scan))
 }
 
-/// The reference at a place in memory; null where the place has no memory.
+/// Returns the reference at a place in memory; null if the place has no memory.
 fn reference_at(heap: &Heap, place: u64) -> Word
     ensures { result ≡ reference_in (word_at heap.now.store place) }
 {
@@ -55,7 +54,7 @@ fn reference_at(heap: &Heap, place: u64) -> Word
     }
 }
 
-/// Marks the word at a place in memory, and writes it back.
+/// Marks the reference at a place in memory, and writes it back.
 #[tactic(auto, unfolding(model::specs::Scans::mark_place, model::specs::Scans::with_marked_place, model::specs::Marks::with_mark))]
 fn mark_place(heap: &mut Heap, place: u64)
     ensures { heap.new ≡ mark_place heap.old place (reference_in (word_at heap.old.store place)) }
@@ -65,7 +64,7 @@ fn mark_place(heap: &mut Heap, place: u64)
     heap.set_reference(place, marked);
 }
 
-/// A worker goes on with its object.
+/// Scans the next field of a worker's object.
 fn scan_next(heap: &mut Heap, worker: u32, scan: Scan) -> Reply
     ensures { Does heap.old result heap.new (scan_next heap.old worker scan (field_at heap.old scan.object scan.next)) }
 {
@@ -82,12 +81,11 @@ fn scan_next(heap: &mut Heap, worker: u32, scan: Scan) -> Reply
     Ok(Answer::Scanned)
 }
 
-/// A worker's next field is scanned: its word is marked and written back (`Scanned`); where no field
-/// is left, the object is scanned, and the worker has none any more (`Finished`). Workers count
-/// from 0.
+/// Scans the next field of a worker's object: its reference is marked and written back (`Scanned`). If no field is
+/// left, the object isn't grey any more, and the worker has none (`Finished`). Workers count from 0.
 ///
-/// Refused where no mark runs (`Phase`), a thread hasn't crossed (`NotCrossed`), or the worker has
-/// no object (`NotTodo`).
+/// Fails with `Phase` if no mark runs; `NotCrossed` if a thread hasn't crossed; `NotTodo` if the worker has no
+/// object.
 #[tactic(auto, unfolding(model::specs::Scans::scan_field_outcome))]
 pub fn scan_field(heap: &mut Heap, worker: u32) -> Reply
     requires { WorkerPasses heap.old worker steps.ScanField }
@@ -100,7 +98,7 @@ pub fn scan_field(heap: &mut Heap, worker: u32) -> Reply
     scan_next(heap, worker, scan)
 }
 
-/// Whether a global has still to be marked, by its number from 0.
+/// Returns whether a global is grey, by its number from 0.
 fn is_todo(heap: &Heap, number: u32) -> bool
     ensures { result ≡ is_todo_in (slice_get heap.now.globals number) }
 {
@@ -120,10 +118,9 @@ fn mark_global(heap: &mut Heap, number: u32)
     heap.set_marked_global(number, marked);
 }
 
-/// A global is marked, and written back. Workers and globals count from 0.
+/// Marks a global, and writes it back. Workers and globals count from 0.
 ///
-/// Refused where no mark runs (`Phase`), a thread hasn't crossed (`NotCrossed`), or the global is
-/// marked already (`NotTodo`).
+/// Fails with `Phase` if no mark runs; `NotCrossed` if a thread hasn't crossed; `NotTodo` if the global isn't grey.
 #[tactic(auto, unfolding(model::specs::Scans::scan_global_outcome))]
 pub fn scan_global(heap: &mut Heap, worker: u32, number: u32) -> Reply
     requires { WorkerPasses heap.old worker (steps.ScanGlobal number) }
@@ -137,12 +134,10 @@ pub fn scan_global(heap: &mut Heap, worker: u32, number: u32) -> Reply
     Ok(Answer::Done)
 }
 
-/// A worker takes an object to scan, by its page's number from 1 and its offset there. Workers count
-/// from 0.
+/// Gives a worker a grey object to scan, by its page's number from 1 and its offset there. Workers count from 0.
 ///
-/// Refused where no mark runs (`Phase`), a thread hasn't crossed (`NotCrossed`), no object that has
-/// still to be scanned starts there (`NotTodo`), or the worker has one already or another worker
-/// has this one (`Taken`).
+/// Fails with `Phase` if no mark runs; `NotCrossed` if a thread hasn't crossed; `NotTodo` if no grey object starts
+/// there; `Taken` if the worker already has an object, or another worker has this one.
 #[tactic(auto, unfolding(model::specs::Scans::pick_outcome), using(crate::proofs::Passing::pick_high))]
 pub fn pick(heap: &mut Heap, worker: u32, page: u32, offset: u32) -> Reply
     requires { WorkerPasses heap.old worker (steps.Pick page offset) }

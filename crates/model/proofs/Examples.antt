@@ -1,4 +1,4 @@
--- Worked examples of marks, computed by the definition of what steps do.
+-- Worked examples of marks, computed by the definitions of the steps.
 use Rattle.std.proofs.Common.{◌≡◌, ℕ, ◌^◌, true, List, [], ◌∷◌, map, refl}
 use Rattle.std.specs.Prelude.{Result, Ok, Err}
 use Rattle.model.specs.declared.config.Config.{Config}
@@ -38,7 +38,7 @@ use Rattle.model.specs.Traps.{trap_outcome, scrub_outcome}
 use Rattle.model.specs.First.{first_heap}
 use Rattle.model.specs.Outcome.{no_register, no_global, no_page, thread_gate, worker_gate, outcome}
 
--- a step of an actor, and its reply
+-- an actor's step, and its reply
 pub record Line : Type 0 where
   pub actor : Actor
   pub step : Step
@@ -58,7 +58,7 @@ unfoldable pub reply_of : Outcome → Result Answer Refusal
 reply_of (Ok y) = Ok y.1
 reply_of (Err e) = Err e
 
--- the replies to the steps of these lines, one after another
+-- the replies to the steps of these lines, in order
 unfoldable pub replies : HeapState → List Line → List (Result Answer Refusal)
 replies h [] = []
 replies h (l ∷ ls) =
@@ -79,7 +79,7 @@ config = record {
   history = 1000000;
 }
 
--- The NMT bit doesn't count: a register from before the mark and one from within it name one object.
+-- The NMT bit doesn't matter: a register from before the mark and one from within it refer to one object.
 bits_dont_count : List Line
 bits_dont_count =
     thread 0 (steps.Take 16) (Ok (answers.Lent 1 0)) ∷
@@ -98,7 +98,7 @@ bits_dont_count =
     thread 0 (steps.Same 0 1) (Ok (answers.Truth true)) ∷
     []
 
--- A reference from before the mark is put into an object that was born within it.
+-- A reference from before the mark is stored in an object that was born within it.
 old_into_new : List Line
 old_into_new =
     thread 0 (steps.Take 8) (Ok (answers.Lent 1 0)) ∷
@@ -128,7 +128,7 @@ old_into_new =
     thread 0 (steps.Datum 1 0) (Ok (answers.Datum 0)) ∷
     []
 
--- A reference that only an open barrier knows keeps the mark from its end.
+-- A mark can't end while an open barrier has a reference that isn't marked.
 known_to_a_barrier : List Line
 known_to_a_barrier =
     thread 0 (steps.Take 16) (Ok (answers.Lent 1 0)) ∷
@@ -162,7 +162,7 @@ known_to_a_barrier =
     thread 0 (steps.Datum 1 0) (Ok (answers.Datum 7)) ∷
     []
 
--- The refusals of a mark's steps, in a second mark.
+-- The errors of a mark's steps, in a second mark.
 each_refusal : List Line
 each_refusal =
     thread 0 (steps.Take 16) (Ok (answers.Lent 1 0)) ∷
@@ -211,7 +211,7 @@ each_refusal =
     thread 0 steps.Cross (Err refusals.Phase) ∷
     []
 
--- What nothing names any more isn't live, and a page without a lent buffer closes.
+-- An unreachable object isn't live after the mark, and a page without a lent buffer closes.
 what_dies : List Line
 what_dies =
     thread 0 (steps.Take 16) (Ok (answers.Lent 1 0)) ∷

@@ -34,7 +34,7 @@ get_set_other (y ∷ ys) zero (suc j) v h = refl
 get_set_other (y ∷ ys) (suc i) zero v h = refl
 get_set_other (y ∷ ys) (suc i) (suc j) v h = get_set_other ys i j v (λ e. h (ap suc e))
 
--- what stands in a list with one element replaced is the new element, or stood there
+-- an element of a list with one element replaced is the new one, or was there before
 pub get_set : {X : Type 0} (xs : List X) (i j : ℕ) (v y : X) → slice_get (set xs i v) j ≡ Some y
     → ((j ≡ i) × (v ≡ y)) ⊎ ((j ≢ i) × (slice_get xs j ≡ Some y))
 get_set [] i j v y h = absurd (cc)
@@ -74,7 +74,7 @@ each_replicate P n x p i y h = subst P (get_replicate n x i y h) p
 pub count_replicate : {X : Type 0} (p : X → Bool) (n : ℕ) (x : X) → count_by p (replicate n x) ≡ n * cond (p x) 1 0
 count_replicate p n x = sum_by-replicate (λ y. cond (p y) 1 0) n x
 
--- a replaced element counts as the new one does
+-- a replaced element counts exactly if the new one does
 pub count_set : {X : Type 0} (p : X → Bool) (xs : List X) (i : ℕ) (x v : X) → slice_get xs i ≡ Some x
     → count_by p (set xs i v) + cond (p x) 1 0 ≡ count_by p xs + cond (p v) 1 0
 count_set p xs i x v h =
@@ -88,19 +88,19 @@ get_within [] i h = absurd (omega arith)
 get_within (x ∷ xs) zero h = (x, refl)
 get_within (x ∷ xs) (suc i) h = get_within xs i (omega arith)
 
--- the first that passes
+-- the first element that passes a test
 pub position_passes : {X : Type 0} (p : X → Bool) (xs : List X) (i : ℕ) (x : X) → position p xs ≡ Some i
     → slice_get xs i ≡ Some x → p x ≡ true
 position_passes p xs i x h e =
     let facts = position-Some p xs i x h in ap p (sym (get_or_from_slice_get xs i x x e)) ∙ facts.1
 
--- it is there
+-- such an element exists
 pub position_finds : {X : Type 0} (p : X → Bool) (xs : List X) (i : ℕ) → position p xs ≡ Some i
     → (x : X) × (slice_get xs i ≡ Some x)
 position_finds p [] i h = absurd (cc)
 position_finds p (x ∷ xs) i h = get_within (x ∷ xs) i (position-Some p (x ∷ xs) i x h).0
 
--- where no element passes a test, each fails it
+-- if no element passes a test, each fails it
 pub none_passes : {X : Type 0} (p : X → Bool) (xs : List X) → list_any p xs ≡ false → Each xs (λ x. p x ≡ false)
 none_passes p [] h i x e = absurd (cc)
 none_passes p (x ∷ xs) h zero y e = ap p (sym (same_Some _ _ e)) ∙ (or_parts (p x) (list_any p xs) h).0
@@ -109,14 +109,14 @@ none_passes p (x ∷ xs) h (suc i) y e = none_passes p xs (or_parts (p x) (list_
 pub none_far : (a b : ℕ) → cond (nat_lt a b) (Some a) None ≡ None → b ≤ a
 none_far a b h = grind (arith, nat_tests)
 
--- where none passes, each fails
+-- if no position is found, each element fails the test
 pub position_none : {X : Type 0} (p : X → Bool) (xs : List X) → position p xs ≡ None → Each xs (λ x. p x ≡ false)
 position_none p xs h i x e =
     let far : length xs ≤ position_or_len p xs = none_far (position_or_len p xs) (length xs) h in
     let within : i < length xs = slice_get_within xs i x e in
     ap p (sym (get_or_from_slice_get xs i x x e)) ∙ fails_before_first p xs i x (omega arith)
 
--- a list is no longer than two counts together, if each element counts in one of them
+-- a list is no longer than two counts together if each element counts in one of them
 pub length_counted : {X : Type 0} (p q : X → Bool) (xs : List X) → Each xs (λ x. p x || q x ≡ true)
     → length xs ≤ count_by p xs + count_by q xs
 length_counted p q [] h = omega arith
@@ -138,7 +138,7 @@ no_some (Some x) e = absurd (cc)
 abbrev pub as_number : Bool → ℕ
 as_number b = cond b 1 0
 
--- one that passes counts
+-- if an element passes, the count is positive
 pub count_positive : {X : Type 0} (p : X → Bool) (xs : List X) (i : ℕ) (x : X) → slice_get xs i ≡ Some x → p x ≡ true
     → 0 < count_by p xs
 count_positive p [] i x h e = absurd (cc)
@@ -149,7 +149,7 @@ count_positive p (y ∷ ys) zero x h e =
 count_positive p (y ∷ ys) (suc i) x h e =
     omega (arith, sum_by-cons (λ z. cond (p z) 1 0) y ys, count_positive p ys i x h e)
 
--- what is at an index that was read
+-- the element at an index that was read
 pub get_read : {X : Type 0} (xs : List X) (i : ℕ) (x : X) → i < length xs → x ≡ get_or xs i x → slice_get xs i ≡ Some x
 get_read xs i x h e = slice_get_read xs (length xs) i x refl h e
 
@@ -158,7 +158,7 @@ get_or_none [] i d e = refl
 get_or_none (x ∷ xs) zero d e = absurd (cc)
 get_or_none (x ∷ xs) (suc i) d e = get_or_none xs i d e
 
--- where no bit is counted, none is set
+-- if no bit is counted, none is set
 pub none_counted : (row : List Bool) → count_by (λ b. b) row ≡ 0 → (i : ℕ) → get_or row i false ≡ false
 none_counted row e i = by_bit (slice_get row i) refl
   where

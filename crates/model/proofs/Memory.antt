@@ -1,4 +1,4 @@
--- The words of pages: where they stand, and what a change of one page's words does to them and to those of others.
+-- The words of pages: where they are, and how a change of one page's words affects them and those of others.
 use Rattle.std.proofs.Common.{◌≡◌, ◌≢◌, ℕ, ◌+◌, ◌-◌, ◌/◌, ◌%◌, cond, Bool, true, false, nat_eq}
 use Rattle.std.proofs.Common.{is_some, List, length, Option, Some, None, refl, sym, ◌∙◌, ap}
 use Rattle.std.proofs.Common.{arith, ◌≤◌, ◌++◌, take, drop, length-drop, length-append}
@@ -50,7 +50,7 @@ own_frame s m n f h e k =
     let two = h.owning.owned j f q y z in
     a ∙ same_Some _ _ (same_Some _ _ (sym one ∙ two)) ∙ sym x
 
--- the words of a page fill it
+-- a page has as many words as the store says
 pub words_sized : (s : StoreState) (n : ℕ) (ws : List ℕ) → IsStore s → words_at s n ≡ Some ws → length ws ≡ s.words
 unfolding words_at
 words_sized s n ws h e = by_frame (frame_in (page_at s n)) refl e
@@ -105,7 +105,7 @@ word_on_page s a = by_frame (frame_in (page_at s (a / s.words)))
     by_frame None = refl
     by_frame (Some f) = refl
 
--- a page that is there has its record one place below its number
+-- the record of page n is at index n - 1
 pub page_there : (s : StoreState) (n : ℕ) (p : Page) → page_at s n ≡ Some p
     → (n ≡ n - 1 + 1) × (slice_get s.pages (n - 1) ≡ Some p)
 unfolding page_at
@@ -132,7 +132,7 @@ words_memory s n ws h e = by_page (page_at s n) refl e
     by_page None a k = absurd (cc)
     by_page (Some p) a k = by_frame p (page_there s n p a).1 p.frame refl k
 
--- so it is used
+-- such a page isn't unused
 pub page_used : (s : StoreState) (n : ℕ) (ws : List ℕ) → IsStore s → words_at s n ≡ Some ws
     → (p : Page) × (slice_get s.pages (n - 1) ≡ Some p) × (is_unused p.state ≡ false)
 unfolding state_at
@@ -150,7 +150,7 @@ page_used s n ws h e = by_page (page_at s n) refl (words_memory s n ws h e)
     by_page None a k = absurd (false≢true (sym (ap (λ o. has_memory (state_in o)) a) ∙ k))
     by_page (Some p) a k = (p, (page_there s n p a).1, used p.state (sym (ap (λ o. has_memory (state_in o)) a) ∙ k))
 
--- and one with memory has words
+-- a page with memory has words
 pub memory_words : (s : StoreState) (n : ℕ) → IsStore s → has_memory (state_at s n) ≡ true
     → (ws : List ℕ) × (words_at s n ≡ Some ws)
 unfolding words_at state_at
@@ -183,7 +183,7 @@ unused_state Closed e = absurd (cc)
 unused_state From e = absurd (cc)
 unused_state Gone e = absurd (cc)
 
--- words laid over others leave their number
+-- an overlay keeps the number of words
 pub length_overlaid : (ws : List ℕ) (o : ℕ) (xs : List ℕ) → length (overlay ws o xs) ≡ length ws
 length_overlaid ws o xs = whole (take o ws) (drop o ws) (omega (arith, length-take o ws, length-drop o ws))
   where
@@ -195,7 +195,7 @@ length_overlaid ws o xs = whole (take o ws) (drop o ws) (omega (arith, length-ta
         let all = length-append front (xs ++ drop (length xs) back) in
         length-take-le (length ws) (front ++ (xs ++ drop (length xs) back)) (omega (arith, all, behind, rest, h))
 
--- other words in a page change no number of frames
+-- other words in a page keep the number of frames
 pub frames_stay : (s : StoreState) (n : ℕ) (f : List ℕ → List ℕ) → length (with_words s n f).frames ≡ length s.frames
 unfolding with_words
 frames_stay s n f = by_frame (frame_in (page_at s n))

@@ -1,4 +1,4 @@
--- Worked examples of pages that are protected and emptied, computed by the definitions of these steps.
+-- Worked examples of pages that are protected and emptied, computed by the definitions of the steps.
 use Rattle.std.proofs.Common.{◌≡◌, List, [], ◌∷◌, ◌++◌, map, refl}
 use Rattle.std.specs.Prelude.{true, Ok, Err}
 use Rattle.model.specs.declared.steps.Step.TheVariants as steps
@@ -35,7 +35,7 @@ use Rattle.model.specs.Moves.{with_copied_words, with_copy, copied_first, copied
 use Rattle.model.specs.Emptying.{entry_on, copy_outcome, crossed_if_protecting, release_outcome}
 use Rattle.model.proofs.Examples.{Line, thread, worker, heap_after, reply_of, replies, config}
 
--- Page 1 is closed, and has one live object with a datum of 5, which a global and a register of each thread name.
+-- Page 1 is closed, and has one live object with a datum of 5, to which a global and a register of each thread refer.
 unfoldable pub closed_page : List Line
 closed_page =
     thread 0 (steps.Take 16) (Ok (answers.Lent 1 0)) ∷
@@ -80,7 +80,7 @@ scrubbed =
     thread 0 (steps.Scrub 0) (Ok answers.Clean) ∷
     []
 
--- A page gives its frame up once its objects are copied, and its number is used again only behind the next mark.
+-- A page loses its frame once its objects are copied, and its number is used again only after the next mark.
 released : List Line
 released =
     worker 0 (steps.Protect (1 ∷ [])) (Ok (answers.Protected 1 1)) ∷
@@ -106,7 +106,7 @@ released =
     thread 1 (steps.Take 16) (Ok (answers.Lent 1 0)) ∷
     []
 
--- A mutator copies what it meets, once all have crossed.
+-- A thread copies the object that it meets, once all threads have crossed.
 copied_by_a_thread : List Line
 copied_by_a_thread =
     worker 0 (steps.Protect (1 ∷ [])) (Ok (answers.Protected 1 1)) ∷
@@ -125,7 +125,7 @@ copied_by_a_thread =
     worker 0 (steps.Copy 1 0) (Err refusals.Copied) ∷
     []
 
--- What can't be protected.
+-- Pages that can't be protected.
 unripe : List Line
 unripe =
     thread 1 (steps.Take 3) (Ok (answers.Lent 2 0)) ∷

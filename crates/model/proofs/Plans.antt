@@ -1,4 +1,4 @@
--- Plans: places lie in their targets, in order, and no two overlap; what stands in a list of live objects.
+-- Plans: places are within their targets, in order, and no two overlap; membership in a list of live objects.
 use Rattle.std.proofs.Common.{◌≡◌, ◌≢◌, ◌⊎◌, inl, inr, ℕ, zero, suc, ◌+◌, ◌<◌, ◌≤◌, Bool, true, false, cond}
 use Rattle.std.proofs.Common.{nat_le, List, [], ◌∷◌, ◌++◌, length, map, Some, refl, sym}
 use Rattle.std.proofs.Common.{◌∙◌, ap, subst, arith, ne_eqb, eq-eqb}
@@ -24,7 +24,7 @@ places_length w t o (n ∷ ns) = by_test (nat_le (o + n) w) (places_length w t (
     by_test true e f = ap suc e
     by_test false e f = ap suc f
 
--- a place of n words begins at this offset of this target, or behind it, and ends in its target
+-- a place of n words begins at this offset of this target, or after it, and ends in its target
 pub record IsBehind (w t o n : ℕ) (p : ℕ × ℕ) : Type 0 where
   pub fits : p.1 + n ≤ w
   pub behind : (t < p.0) ⊎ ((t ≡ p.0) × (o ≤ p.1))
@@ -109,7 +109,7 @@ places_apart w t o (x ∷ ns) h i (suc j) n m p q l e f g k =
         (places_behind w (t + 1) x ns (λ i. h (suc i)) j m q g k) (same_Some _ _ e) (same_Some _ _ f)
     by_test false b (suc i) z e f k u v = v i j n m p q (omega (arith, z)) e f g k
 
--- a place is in this target or in one behind it
+-- a place is in this target or in a later one
 from_target : (w t o : ℕ) (ns : List ℕ) (i : ℕ) (p : ℕ × ℕ) → slice_get (places_from w t o ns) i ≡ Some p → t ≤ p.0
 from_target w t o [] i p e = absurd (cc)
 from_target w t o (n ∷ ns) i p e = by_test (nat_le (o + n) w) i e (from_target w t (o + n) ns)
@@ -159,9 +159,9 @@ places_counted w t o (n ∷ ns) i p e = by_test (nat_le (o + n) w) i e (places_c
     by_test true i e near far = behind t o (places_from w t (o + n) ns) (from_target w t (o + n) ns) near i e
     by_test false i e near far = behind (t + 1) 0 (places_from w (t + 1) n ns) (from_target w (t + 1) n ns) far i e
 
--- what stands in a list
+-- membership in a list
 
--- x stands in a list
+-- x is in a list
 abbrev pub IsIn : {X : Type 0} → X → List X → Type 0
 IsIn x [] = ⊥
 IsIn x (y ∷ ys) = (y ≡ x) ⊎ IsIn x ys
@@ -203,7 +203,7 @@ at_in x (y ∷ xs) (suc i) e = inr (at_in x xs i e)
 
 -- live objects
 
--- an offset that is told is that of a bit
+-- an offset that is listed is that of a set bit
 pub offset_told : (b : ℕ) (bits : List Bool) (o : ℕ) → IsIn o (offsets_from b bits)
     → (j : ℕ) × (o ≡ b + j) × (slice_get bits j ≡ Some true)
 offset_told b [] o e = absurd e
@@ -213,7 +213,7 @@ offset_told b (true ∷ bits) o (inr e) =
 offset_told b (false ∷ bits) o e =
     let (j, is, set) = offset_told (b + 1) bits o e in (suc j, omega (arith, is), set)
 
--- and each bit's is told
+-- the offset of each set bit is listed
 pub bit_told : (b : ℕ) (bits : List Bool) (o j : ℕ) → o ≡ b + j → slice_get bits j ≡ Some true
     → IsIn o (offsets_from b bits)
 bit_told b [] o j e k = absurd (cc)
@@ -237,7 +237,7 @@ in_objects f y (z ∷ xs) e = elim (in_either y (f z) (flat_map f xs) e) [
   | inr k ↦ (let (x, there, is) = in_objects f y xs k in (x, inr there, is))
 ]
 
--- what is planned for an address is the place beside it
+-- the place planned for an address is the one paired with it
 pub placed : (objects places : List ℕ) (a : ℕ) → length places ≡ length objects → IsIn a objects
     → (i : ℕ) × (slice_get objects i ≡ Some a) × (slice_get places i ≡ Some (place_of (zip objects places) a))
 placed [] places a e k = absurd k
@@ -258,7 +258,7 @@ placed (x ∷ objects) (n ∷ places) a e k = by_first (cases_eq x a) k (placed 
         let (i, at, to) = rest there in
         (suc i, at, to ∙ ap (λ b. Some (place b)) (sym (ne_eqb x a d)))
 
--- the entries of a side array rise
+-- the entries of a forwarding table rise
 pub side_rises : (w b : ℕ) (bits : List Bool) (f : ℕ → ℕ) → b + length bits ≤ w
     → AreRising w b (map (λ o. record { offset = o; to = f o; copied = false }) (offsets_from b bits))
 side_rises w b [] f e = tt

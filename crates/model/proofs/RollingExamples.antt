@@ -1,5 +1,5 @@
--- Worked examples of marks that run while objects of protected pages are still to be copied, computed by the
--- definitions of these steps.
+-- Worked examples of deferred relocation: marks that run while objects of protected pages are uncopied, computed by
+-- the definitions of the steps.
 use Rattle.std.proofs.Common.{List, [], ◌∷◌, ◌++◌, refl}
 use Rattle.std.specs.Prelude.{Ok, Err}
 use Rattle.model.specs.declared.steps.Step.TheVariants as steps
@@ -38,7 +38,7 @@ use Rattle.model.specs.Emptying.{release_outcome}
 use Rattle.model.proofs.Examples.{Line, thread, worker, heap_after, reply_of, replies, config}
 use Rattle.model.proofs.MovingExamples.{closed_page, Computes}
 
--- A mark's checkpoint copies what a register names, and the page that was never released is unused behind the mark.
+-- A mark's crossing copies the object of a register, and the page that was never released is unused after the mark.
 copied_by_a_mark : List Line
 copied_by_a_mark =
     worker 0 (steps.Protect (1 ∷ [])) (Ok (answers.Protected 1 1)) ∷
@@ -77,7 +77,7 @@ released_in_a_mark =
     thread 0 (steps.Datum 0 0) (Ok (answers.Datum 5)) ∷
     []
 
--- What no word names isn't copied, and its page gives its frame up at the mark's end.
+-- An object without references to it isn't copied, and its page loses its frame when the mark ends.
 never_copied : List Line
 never_copied =
     worker 0 (steps.Protect (1 ∷ [])) (Ok (answers.Protected 1 1)) ∷

@@ -1,4 +1,4 @@
--- Rows and side arrays of pages: what keeps them as many and as long as they are.
+-- Bitmaps and forwarding tables of pages: changes that keep their number and their lengths.
 use Rattle.std.proofs.Common.{◌≡◌, ◌≤◌, ℕ, zero, suc, Bool, true, false, cond, List, [], ◌∷◌, map, length}
 use Rattle.std.proofs.Common.{replicate, set, refl, sym, ap, ◌∙◌, arith}
 use Rattle.std.specs.List.{slice_get}
@@ -23,7 +23,7 @@ length_changed {X} xs i f = go (slice_get xs i)
     go None = refl
     go (Some x) = length-set xs i (f x)
 
--- a row is changed to another of its length
+-- a bitmap is replaced by another of its length
 pub lengths_changed : (rows : List (List Bool)) (i : ℕ) (f : List Bool → List Bool)
     → ((row : List Bool) → length (f row) ≡ length row) → map length (change_at rows i f) ≡ map length rows
 lengths_changed rows i f h = go rows i (slice_get rows i) refl
@@ -40,26 +40,26 @@ pub rows_changed : (s : StoreState) (rows : List (List Bool)) (i : ℕ) (f : Lis
     → AreRowsOf s rows → ((row : List Bool) → length (f row) ≡ length row) → AreRowsOf s (change_at rows i f)
 rows_changed s rows i f r h = lengths_changed rows i f h ∙ r
 
--- a bit is put
+-- a bit is written
 pub rows_put : (s : StoreState) (rows : List (List Bool)) (i o : ℕ) (bit : Bool) → AreRowsOf s rows
     → AreRowsOf s (change_at rows i (put_bit o bit))
 rows_put s rows i o bit r = rows_changed s rows i (put_bit o bit) r (λ row. length-set row o bit)
 
--- a row is put in the place of another
+-- a bitmap is replaced by another
 pub lengths_set : (rows : List (List Bool)) (i : ℕ) (row : List Bool)
     → map length (set rows i row) ≡ set (map length rows) i (length row)
 lengths_set [] i row = refl
 lengths_set (r ∷ rows) zero row = refl
 lengths_set (r ∷ rows) (suc i) row = ap (λ ns. length r ∷ ns) (lengths_set rows i row)
 
--- all rows are blanked
+-- all bitmaps are cleared
 pub lengths_blank : (rows : List (List Bool)) → map length (blank_all rows) ≡ map length rows
 lengths_blank [] = refl
 lengths_blank (r ∷ rows) =
     ap (λ n. n ∷ map length (blank_all rows)) (length-replicate (length r) false)
     ∙ ap (λ ns. length r ∷ ns) (lengths_blank rows)
 
--- there are as many rows as records
+-- there are as many bitmaps as records
 pub rows_many : (s : StoreState) (rows : List (List Bool)) → AreRowsOf s rows → length rows ≡ length s.pages
 rows_many s rows r =
     sym (length-map rows (λ (row : List Bool). length row)) ∙ ap length r ∙ length-map s.pages (row_size s.words)
@@ -70,19 +70,19 @@ get_map f [] i x e = absurd (cc)
 get_map f (y ∷ ys) zero x e = ap (λ z. Some (f z)) (same_Some _ _ e)
 get_map f (y ∷ ys) (suc i) x e = get_map f ys i x e
 
--- the size of a page's row
+-- the size of a page's bitmap
 pub row_at : (s : StoreState) (rows : List (List Bool)) (i : ℕ) (p : Page) (row : List Bool) → AreRowsOf s rows
     → slice_get s.pages i ≡ Some p → slice_get rows i ≡ Some row → length row ≡ row_size s.words p
 row_at s rows i p row r a b = same_Some _ _ (sym (get_map (λ (x : List Bool). length x) rows i row b)
     ∙ ap (λ ns. slice_get ns i) r ∙ get_map (row_size s.words) s.pages i p a)
 
--- the row of a page that is used
+-- the bitmap of a page that isn't unused
 pub row_used : (s : StoreState) (rows : List (List Bool)) (i : ℕ) (p : Page) (row : List Bool) → AreRowsOf s rows
     → slice_get s.pages i ≡ Some p → is_unused p.state ≡ false → slice_get rows i ≡ Some row
     → length row ≡ s.words
 row_used s rows i p row r a used b = row_at s rows i p row r a b ∙ ap (λ b. cond b 0 s.words) used
 
--- no row has more bits than a page has words
+-- no bitmap has more bits than a page has words
 pub row_short : (s : StoreState) (rows : List (List Bool)) (i : ℕ) (row : List Bool) → AreRowsOf s rows
     → slice_get rows i ≡ Some row → length row ≤ s.words
 row_short s rows i row r b =
@@ -102,7 +102,7 @@ first_rows c = go (record_count c.frames c.pages)
     go zero = refl
     go (suc n) = ap (λ ns. 0 ∷ ns) (go n)
 
--- no entry goes anywhere where there is none
+-- an empty forwarding table has only entries that go to pages
 pub none_goes : (c : Config) → Each [] (GoesToPage c)
 none_goes c i f e = absurd (cc)
 

@@ -1,4 +1,4 @@
--- The usual configuration is out of range at most where its caller's numbers are.
+-- In the default configuration only numbers that its caller gave can be out of range.
 use Rattle.std.proofs.Common.{◌≡◌, inl, inr, ℕ, ◌*◌, min, Bool, true, false, ◌||◌, not, List, length}
 use Rattle.std.proofs.Common.{Some, None, refl, sym, subst, arith}
 use Rattle.std.specs.Prelude.{if◌then◌else◌, IfSome}
@@ -9,7 +9,7 @@ use Rattle.model.specs.declared.config.Config.{Config}
 use Rattle.model.specs.declared.config.ConfigFault.TheVariants as faults
 use Rattle.model.specs.Configs.{first_fault, usual_config, is_page_size, is_outside, fits_page, IsOfCaller}
 
--- pages are in range where frames are
+-- the number of pages is in range if that of frames is
 pages_in_range : (frames : ℕ) → is_outside frames 1 1048575 ≡ false
     → is_outside (min (2 * frames) 1048575) frames 1048575 ≡ false
 pages_in_range frames h = grind (arith, nat_tests)

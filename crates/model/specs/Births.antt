@@ -18,16 +18,16 @@ use Rattle.model.specs.Bits.{put_bit}
 abbrev pub fresh_object : ℕ → ℕ → Layout → List ℕ
 fresh_object birth number l = header_bits (record { birth = birth; layout = number }) ∷ replicate (l.refs + l.nums) 0
 
--- what is left of a buffer after n of its words
+-- the rest of a buffer after n of its words
 abbrev pub used_buffer : Buffer → ℕ → Buffer
 used_buffer b n = record b { next = b.next + n }
 
--- a thread's register gets a new object's word, and its buffer is what is left of it
+-- a thread's register gets a reference to a new object, and its buffer becomes the rest
 abbrev pub hand_object : ℕ → Reference → Buffer → ThreadState → ThreadState
 hand_object target w rest t = set_register_of target w (set_buffer_of (Some rest) t)
 
--- the heap after an object was made in a buffer; while a mark runs it is born marked, and before all have crossed it is
--- still to be scanned (ours)
+-- the heap after an object was made in a buffer; while a mark runs it is born marked, and before all threads have
+-- crossed also grey
 unfoldable pub place_object : HeapState → ℕ → ℕ → ℕ → Layout → Buffer → HeapState
 place_object h t target number l b = record h {
   store = with_words h.store b.page (λ ws. overlay ws b.next (fresh_object h.births number l));
@@ -39,7 +39,7 @@ place_object h t target number l b = record h {
   births = h.births + 1;
 }
 
--- the row of New
+-- the outcome of New
 unfoldable pub new_outcome : HeapState → ℕ → ℕ → ℕ → Outcome
 new_outcome h t target number = do
   b ← or_refuse (buffer_of_thread h t) refusals.NoRoom

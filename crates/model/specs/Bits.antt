@@ -1,10 +1,10 @@
--- The bits of rows, by page and offset, and by the addresses of words.
+-- The bits of bitmaps, by page and offset, and by the addresses of words.
 use Rattle.std.specs.Prelude.{ℕ, ◌-◌, ◌/◌, ◌%◌, zero, suc, Bool, false, List, [], get_or, map, count_by, length}
 use Rattle.std.specs.List.{sum_by}
 use Rattle.std.specs.Prelude.{replicate, slice_set}
 use Rattle.model.specs.States.{change_at}
 
--- what page n has in a list of something for each record
+-- page n's element of a list with one element for each record
 abbrev pub of_page : {X : Type 0} → List (List X) → ℕ → List X
 of_page xs zero = []
 of_page xs (suc i) = get_or xs i []
@@ -13,23 +13,23 @@ of_page xs (suc i) = get_or xs i []
 abbrev pub bit_on : List (List Bool) → ℕ → ℕ → Bool
 bit_on rows n offset = get_or (of_page rows n) offset false
 
--- the bit of an address in rows of pages of so many words
+-- the bit of an address, by the number of words of a page
 abbrev pub bit_at : List (List Bool) → ℕ → ℕ → Bool
 bit_at rows words a = bit_on rows (a / words) (a % words)
 
--- a row with the bit of offset o set or cleared
+-- a bitmap with the bit of offset o set or cleared
 abbrev pub put_bit : ℕ → Bool → List Bool → List Bool
 put_bit o bit row = slice_set row o bit
 
--- rows with the bit of an address set or cleared
+-- bitmaps with the bit of an address set or cleared
 abbrev pub with_bit : List (List Bool) → ℕ → ℕ → Bool → List (List Bool)
 with_bit rows words a bit = change_at rows (a / words - 1) (put_bit (a % words) bit)
 
--- a row of the same length with all bits clear
+-- a bitmap of the same length with all bits clear
 abbrev pub blank_row : List Bool → List Bool
 blank_row row = replicate (length row) false
 
--- rows of the same lengths with all bits clear
+-- bitmaps of the same lengths with all bits clear
 abbrev pub blank_all : List (List Bool) → List (List Bool)
 blank_all rows = map blank_row rows
 

@@ -1,4 +1,4 @@
--- Checkpoints: crossings, registers that are corrected, and threads that are parked.
+-- Checkpoints: crossings, registers that are corrected, and parked threads.
 use Rattle.std.specs.Prelude.{ℕ, zero, suc, Bool, true, false, not, List, Option, Some, None, is_none, slice_get}
 use Rattle.std.specs.Prelude.{position, if◌then◌else◌, Result, Ok, Err}
 use Rattle.model.specs.declared.records.Phase.{Phase}
@@ -18,26 +18,26 @@ use Rattle.model.specs.Moves.{copied_for}
 unfoldable pub with_parked : HeapState → ℕ → Bool → HeapState
 with_parked h t b = record h { threads = change_at h.threads t (set_parked_of b) }
 
--- the least of these threads that hasn't crossed
+-- the lowest-numbered thread that hasn't crossed
 unfoldable pub first_behind : List ThreadState → Option ℕ
 first_behind threads = position (λ (t : ThreadState). not t.crossed) threads
 
--- no thread has still to cross, or the one that has is the refusal
+-- Ok if there is no such thread, else an error with its number
 abbrev pub none_behind : Option ℕ → Result Unit Refusal
 none_behind None = Ok tt
 none_behind (Some t) = Err (refusals.NotCrossed t)
 
--- all threads have crossed, or the least one that hasn't is the refusal
+-- Ok if all threads have crossed, else an error with the lowest-numbered one that hasn't
 unfoldable pub all_crossed : HeapState → Result Unit Refusal
 all_crossed h = none_behind (first_behind h.threads)
 
--- the phase behind a checkpoint (the paper's checkpoints)
+-- the phase after a checkpoint
 abbrev pub phase_behind : Phase → Phase
 phase_behind MarkCrossing = Scanning
 phase_behind ProtectCrossing = Relocating
 phase_behind other = other
 
--- the heap in which a thread has crossed; where it is the last, the next phase begins (the paper's checkpoints)
+-- the heap after a thread has crossed; if it is the last, the next phase begins
 unfoldable pub with_crossed : HeapState → ℕ → HeapState
 with_crossed h t = record h {
   threads = change_at h.threads t (set_crossed_of true);
@@ -45,50 +45,49 @@ with_crossed h t = record h {
       then phase_behind h.phase else h.phase;
 }
 
--- the heap after a word is marked where its object is now, and put into a register
+-- the heap after a reference was marked, and written corrected to a register
 unfoldable pub with_marked_word : HeapState → ℕ → ℕ → Reference → HeapState
 with_marked_word h t r v = with_register (with_mark h v) t r (marked_word h v)
 
--- the heap after the word in a register is marked; its object is copied first where it wasn't (ours)
+-- the heap after the reference in a register was marked; its object is copied first if it isn't copied
 unfoldable pub with_marked_register : HeapState → ℕ → ℕ → HeapState
 with_marked_register h t r = with_marked_word (copied_for h (register_of h t r)) t r (register_of h t r)
 
--- the same of each register below n
+-- the same for each register below n
 abbrev pub with_marked_registers : HeapState → ℕ → ℕ → HeapState
 with_marked_registers h t zero = h
 with_marked_registers h t (suc r) = with_marked_register (with_marked_registers h t r) t r
 
--- how many registers of a thread a crossing marks: at a mark's checkpoint all (the paper's checkpoints: each thread
--- marks its own roots), at that of protected pages none (ours)
+-- how many registers of a thread a crossing marks: at a mark's checkpoint all, at that of protected pages none
 abbrev pub marked_at_crossing : HeapState → ℕ
 marked_at_crossing h = if is_mark_crossing h.phase then h.config.registers else 0
 
--- the heap after a thread crosses the open checkpoint
+-- the heap after a thread crossed the open checkpoint
 unfoldable pub cross_thread : HeapState → ℕ → HeapState
 cross_thread h t = with_crossed (with_marked_registers h t (marked_at_crossing h)) t
 
--- a thread has still to cross the open checkpoint
+-- Ok if a checkpoint is open that a thread hasn't crossed
 unfoldable pub may_cross : HeapState → ℕ → Result Unit Refusal
 may_cross h t =
     if not (is_crossing h.phase) then Err refusals.Phase else
     (if has_crossed (slice_get h.threads t) then Err refusals.AlreadyCrossed else Ok tt)
 
--- the row of Cross
+-- the outcome of Cross
 unfoldable pub cross_outcome : HeapState → ℕ → Outcome
 cross_outcome h t = do
   _ ← may_cross h t
   Ok (cross_thread h t, answers.Done)
 
--- the row of CrossFor
+-- the outcome of CrossFor
 unfoldable pub cross_for_outcome : HeapState → ℕ → Outcome
 cross_for_outcome h t =
     if not (is_parked_in (slice_get h.threads t)) then Err refusals.NotParked else cross_outcome h t
 
--- the row of Park
+-- the outcome of Park
 unfoldable pub park_outcome : HeapState → ℕ → Outcome
 park_outcome h t = Ok (with_parked h t true, answers.Done)
 
--- the row of Unpark
+-- the outcome of Unpark
 unfoldable pub unpark_outcome : HeapState → ℕ → Outcome
 unpark_outcome h t =
     if is_parked_in (slice_get h.threads t) then Ok (with_parked h t false, answers.Done) else Err refusals.NotParked

@@ -11,18 +11,18 @@ use Rattle.model.specs.declared.limits.TheConstants.{MOST_GLOBALS, MOST_LAYOUTS,
 use Rattle.model.specs.declared.config.ConfigFault.{ConfigFault}
 use Rattle.model.specs.declared.config.ConfigFault.TheVariants as faults
 
--- a power of two from 16 to 32768
+-- n is a power of two from 16 to 32768
 abbrev pub is_page_size : ℕ → Bool
 is_page_size n =
     (n == 16) || (n == 32) || (n == 64) || (n == 128) || (n == 256)
     || (n == 512) || (n == 1024) || (n == 2048) || (n == 4096)
     || (n == 8192) || (n == 16384) || (n == 32768)
 
--- from low to high
+-- n isn't in the range from low to high
 abbrev pub is_outside : ℕ → ℕ → ℕ → Bool
 is_outside n low high = nat_lt n low || nat_lt high n
 
--- the layout has no more references and data than an object may have, and an object of it has room in a page
+-- the layout has no more references and data than an object may have, and its objects fit in a page
 abbrev pub fits_page : ℕ → Layout → Bool
 fits_page words l = nat_le l.refs MOST_FIELDS && nat_le l.nums MOST_FIELDS && nat_le (size_of l) words
 
@@ -41,7 +41,7 @@ first_fault c =
     (if is_outside c.births 1 MOST_BIRTHS then Some faults.Births else
     (if is_outside c.history 1 MOST_HISTORY then Some faults.History else None)))))))))
 
--- a configuration of which the frames, their words and the layouts are given, and all else is what serves most heaps
+-- the default configuration for these numbers of words and frames, and these layouts
 unfoldable pub usual_config : ℕ → ℕ → List Layout → Config
 usual_config words frames layouts = record {
   words = words;
@@ -56,7 +56,7 @@ usual_config words frames layouts = record {
   history = MOST_HISTORY;
 }
 
--- the field is one that the caller of such a configuration gives
+-- the caller of a default configuration gives this field
 abbrev pub IsOfCaller : ConfigFault → Type 0
 IsOfCaller fault = (fault ≡ faults.Words) ⊎ ((fault ≡ faults.Frames) ⊎ (fault ≡ faults.Layouts))
 
@@ -64,7 +64,7 @@ IsOfCaller fault = (fault ≡ faults.Words) ⊎ ((fault ≡ faults.Frames) ⊎ (
 abbrev pub IsConfig : Config → Type 0
 IsConfig c = first_fault c ≡ None
 
--- what the code uses of being in range
+-- what the code needs of the ranges
 pub record IsRanged (c : Config) : Type 0 where
   pub page_size : is_page_size c.words ≡ true
   pub words_low : 16 ≤ c.words

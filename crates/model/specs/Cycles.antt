@@ -1,4 +1,4 @@
--- A mark starts and ends (the paper's Mark phase).
+-- Starting and ending a mark.
 use Rattle.std.specs.List.{list_any}
 use Rattle.std.specs.Prelude.{ℕ, ◌==◌, ◌||◌, not, Bool, true, false, List, [], ◌∷◌, map, replicate}
 use Rattle.std.specs.Prelude.{length, count_by, position, Option, Some, None, is_some, if◌then◌else◌, Result, Ok, Err}
@@ -20,15 +20,15 @@ use Rattle.model.specs.Scans.{may_scan}
 
 -- a mark starts
 
--- an entry's object has still to be copied
+-- an entry's object isn't copied
 abbrev pub is_uncopied : Forwarding → Bool
 is_uncopied f = not f.copied
 
--- a global that has still to be marked
+-- a global that is grey
 abbrev pub set_todo_of : Global → Global
 set_todo_of g = record g { todo = true }
 
--- the heap after a mark starts: the clean value flips, and all threads and globals have still to be marked
+-- the heap after a mark started: the clean value flips, all threads count as not crossed, and all globals are grey
 unfoldable pub start_mark : HeapState → HeapState
 start_mark h = record h {
   nmt = not h.nmt;
@@ -37,26 +37,26 @@ start_mark h = record h {
   phase = MarkCrossing;
 }
 
--- the row of StartMark
+-- the outcome of StartMark
 unfoldable pub start_mark_outcome : HeapState → Outcome
 start_mark_outcome h = if may_start_mark h.phase then Ok (start_mark h, answers.Done) else Err refusals.Phase
 
 -- a mark ends
 
--- something is still to be scanned or marked
+-- something is grey
 unfoldable pub has_todo : HeapState → Bool
 has_todo h = not (bit_count h.todo == 0) || list_any (λ (g : Global). g.todo) h.globals
 
--- the least thread with an open barrier
+-- the lowest-numbered thread with an open barrier
 unfoldable pub first_pending : List ThreadState → Option ℕ
 first_pending threads = position (λ (t : ThreadState). is_some t.barrier) threads
 
--- no barrier is open, or the thread that has one is the refusal
+-- Ok if no barrier is open, else an error with the thread that has one
 abbrev pub none_pending : Option ℕ → Result Unit Refusal
 none_pending None = Ok tt
 none_pending (Some t) = Err (refusals.Pending t)
 
--- a buffer that may be missing is on page n
+-- a buffer, if there is one, is on page n
 abbrev pub is_buffer_on : ℕ → Option Buffer → Bool
 is_buffer_on n None = false
 is_buffer_on n (Some b) = b.page == n
@@ -65,13 +65,13 @@ is_buffer_on n (Some b) = b.page == n
 unfoldable pub is_lent : List ThreadState → ℕ → Bool
 is_lent threads n = list_any (λ (t : ThreadState). is_buffer_on n t.buffer) threads
 
--- the rows of pages after a mark, which protected pages give up
+-- the bitmaps of pages after a mark: protected pages have none
 abbrev pub rows_after_mark : List Page → List (List Bool) → List (List Bool)
 rows_after_mark [] rows = rows
 rows_after_mark (p ∷ ps) [] = []
 rows_after_mark (p ∷ ps) (row ∷ rows) = (if is_protected p.state then [] else row) ∷ rows_after_mark ps rows
 
--- the heap after a mark ends (ours): what it marked is live, and pages are as `page_after_mark` says
+-- the heap after a mark ended: the marked objects are live, and pages are as in `page_after_mark`
 unfoldable pub end_mark : HeapState → HeapState
 end_mark h = record h {
   store = store_after_mark (is_lent h.threads) h.store;
@@ -87,7 +87,7 @@ end_mark h = record h {
 unfoldable pub retired_count : HeapState → ℕ
 retired_count h = count_by (λ (p : Page). is_protected p.state) h.store.pages
 
--- the row of EndMark
+-- the outcome of EndMark
 unfoldable pub end_mark_outcome : HeapState → Outcome
 end_mark_outcome h = do
   _ ← may_scan h

@@ -1,4 +1,4 @@
--- Data of objects, and the layouts that say where they stand.
+-- Data of objects, and the layouts by which they are found.
 use Rattle.std.specs.Prelude.{ℕ, ◌+◌, List, Option, Some, None, slice_get, if◌then◌else◌, Ok, nat_lt}
 use Rattle.layout.specs.declared.shape.Layout.{Layout}
 use Rattle.layout.specs.Objects.{layout_of}
@@ -27,16 +27,16 @@ layout_at h address = layout_in h.config.layouts (header_layout (word_at h.store
 abbrev pub datum_address : ℕ → Layout → ℕ → ℕ
 datum_address address l j = address + 1 + l.refs + j
 
--- where data word j of the object at an address stands, if its layout is there and has so many
+-- the address of data word j of the object at an address, if its layout exists and has such a word
 abbrev pub datum_place : ℕ → ℕ → Option Layout → Option ℕ
 datum_place address j None = None
 datum_place address j (Some l) = if nat_lt j l.nums then Some (datum_address address l j) else None
 
--- where data word j of the object at an address stands
+-- the address of data word j of the object at an address, if it has such a word
 unfoldable pub datum_at : HeapState → ℕ → ℕ → Option ℕ
 datum_at h address j = datum_place address j (layout_at h address)
 
--- the row of Datum
+-- the outcome of Datum
 unfoldable pub datum_outcome : HeapState → ℕ → ℕ → ℕ → Outcome
 datum_outcome h t object j = do
   address ← usable h t object
@@ -44,7 +44,7 @@ datum_outcome h t object j = do
   value ← or_refuse (word_at h.store place) refusals.BadIndex
   Ok (h, answers.Datum value)
 
--- the row of SetDatum
+-- the outcome of SetDatum
 unfoldable pub set_datum_outcome : HeapState → ℕ → ℕ → ℕ → ℕ → Outcome
 set_datum_outcome h t object j value = do
   address ← usable h t object

@@ -1,5 +1,5 @@
--- Workers empty protected pages: the rows of Copy, CopyPage and Release (the paper's Relocate phase). All go on while
--- the next mark runs (ours).
+-- Emptying protected pages: the outcomes of Copy, CopyPage and Release. All are also possible while the next mark
+-- runs.
 use Rattle.std.specs.List.{list_any}
 use Rattle.std.specs.Prelude.{ℕ, zero, suc, ◌*◌, ◌+◌, ◌/◌, ◌%◌, not, Option, None, slice_get, if◌then◌else◌, Result, Ok}
 use Rattle.std.specs.Prelude.{Err}
@@ -18,15 +18,15 @@ use Rattle.model.specs.Cycles.{is_uncopied}
 use Rattle.model.specs.Moves.{with_copy, with_released}
 use Rattle.model.specs.Protections.{free_count}
 
--- where pages are being protected, all threads have crossed
+-- if pages are being protected, all threads have crossed
 unfoldable pub crossed_if_protecting : HeapState → Result Unit Refusal
 crossed_if_protecting h = if is_protect_crossing h.phase then all_crossed h else Ok tt
 
--- an entry of a page that is being emptied, by its number
+-- an entry of a From page, by its number
 unfoldable pub entry_on : HeapState → ℕ → ℕ → Option Forwarding
 entry_on h page e = if is_from (state_at h.store page) then slice_get (of_page h.sides page) e else None
 
--- the row of Copy
+-- the outcome of Copy
 unfoldable pub copy_outcome : HeapState → ℕ → ℕ → Outcome
 copy_outcome h page e = do
   _ ← refuse_if (is_idle h.phase) refusals.Phase
@@ -35,15 +35,15 @@ copy_outcome h page e = do
   _ ← refuse_if f.copied refusals.Copied
   Ok (with_copy h (page * h.store.words + f.offset) f.to, answers.MovedTo (f.to / h.store.words) (f.to % h.store.words))
 
--- whole pages
+-- complete pages
 
--- the heap after a step: a refused one leaves it as it was
+-- the heap after a step: an error leaves it as it was
 abbrev pub heap_after : HeapState → Outcome → HeapState
 heap_after h (Ok x) = x.0
 heap_after h (Err n) = h
 
--- the heap after Copy of so many entries of a page, one after the other, from number e on; that of an entry whose
--- object is copied already is refused
+-- the heap after Copy of a number of entries of a page in order, from number e on; that of an entry whose object is
+-- already copied fails
 abbrev pub copies_from : HeapState → ℕ → ℕ → ℕ → HeapState
 copies_from h page e zero = h
 copies_from h page e (suc k) = copies_from (heap_after h (copy_outcome h page e)) page (e + 1) k
@@ -52,7 +52,7 @@ copies_from h page e (suc k) = copies_from (heap_after h (copy_outcome h page e)
 unfoldable pub copy_page : HeapState → ℕ → HeapState
 copy_page h page = copies_from h page 0 (length (of_page h.sides page))
 
--- the row of CopyPage
+-- the outcome of CopyPage
 unfoldable pub copy_page_outcome : HeapState → ℕ → Outcome
 copy_page_outcome h page = do
   _ ← refuse_if (is_idle h.phase) refusals.Phase
@@ -60,9 +60,9 @@ copy_page_outcome h page = do
   _ ← refuse_if (not (is_from (state_at h.store page))) refusals.BadIndex
   Ok (copy_page h page, answers.CopiedPage (count_by is_uncopied (of_page h.sides page)))
 
--- memory is given up
+-- releasing pages
 
--- the row of Release
+-- the outcome of Release
 unfoldable pub release_outcome : HeapState → ℕ → Outcome
 release_outcome h page = do
   _ ← refuse_if (is_idle h.phase) refusals.Phase

@@ -1,4 +1,4 @@
--- The state that a heap begins in.
+-- The first state of a heap.
 use Rattle.std.specs.Prelude.{ℕ, Bool, true, false, List, [], replicate, None}
 use Rattle.model.specs.declared.config.Config.{Config}
 use Rattle.model.specs.declared.records.Forwarding.{Forwarding}
@@ -7,7 +7,7 @@ use Rattle.model.specs.Stores.{first_store, record_count}
 use Rattle.model.specs.States.{ThreadState, HeapState}
 use Rattle.model.specs.Tallies.{blank_tally}
 
--- a thread as a heap begins: its registers are null, it has crossed, it runs, and nothing is counted
+-- the first state of a thread: its registers are null, it has crossed, it isn't parked, and its counters are 0
 abbrev pub blank_thread : ℕ → ThreadState
 blank_thread registers = record {
   registers = replicate registers None;
@@ -18,15 +18,15 @@ blank_thread registers = record {
   tally = blank_tally;
 }
 
--- an empty row for each page record
+-- an empty bitmap for each page record
 abbrev pub blank_rows : Config → List (List Bool)
 blank_rows c = replicate (record_count c.frames c.pages) []
 
--- an empty side array for each page record
+-- an empty forwarding table for each page record
 abbrev pub no_sides : Config → List (List Forwarding)
 no_sides c = replicate (record_count c.frames c.pages) []
 
--- the state that a heap begins in
+-- the first state of a heap
 unfoldable pub first_heap : Config → HeapState
 first_heap c = record {
   config = c;

@@ -1,4 +1,4 @@
--- Objects are copied to where they are planned, and pages give their memory up (the paper's Relocate phase).
+-- Copying objects to their planned places, and releasing pages.
 use Rattle.std.specs.Prelude.{ℕ, ◌-◌, ◌/◌, ◌%◌, ◌==◌, ◌||◌, Bool, true, List, [], map, take, drop}
 use Rattle.std.specs.Prelude.{Option, Some, None, slice_set, if◌then◌else◌}
 use Rattle.model.specs.declared.records.Forwarding.{Forwarding}
@@ -12,7 +12,7 @@ use Rattle.model.specs.Plans.{object_words}
 
 -- copies
 
--- n words of a page that may have no memory, from an offset on, as far as the page goes
+-- n words of a page from an offset on, up to the page's end; none if it has no memory
 abbrev pub words_from : ℕ → ℕ → Option (List ℕ) → List ℕ
 words_from offset n None = []
 words_from offset n (Some ws) = take n (drop offset ws)
@@ -23,7 +23,7 @@ with_copied_words s address to n = with_words s (to / s.words) (λ ws. overlay w
     (if address / s.words == to / s.words then []
     else words_from (address % s.words) n (words_at s (address / s.words))))
 
--- an entry that is copied, if it is the one of this offset
+-- an entry that is copied if it has this offset
 abbrev pub set_copied_of : ℕ → Forwarding → Forwarding
 set_copied_of offset f = record f { copied = f.copied || (f.offset == offset) }
 
@@ -35,41 +35,41 @@ with_copy h address to = record h {
   sides = change_at h.sides (address / h.store.words - 1) (map (set_copied_of (address % h.store.words)));
 }
 
--- the heap after the object of an entry is copied, where there is one and it wasn't
+-- the heap after the object of an entry was copied, if there is an entry and its object wasn't
 abbrev pub copied_by : HeapState → ℕ → Option Forwarding → HeapState
 copied_by h address None = h
 copied_by h address (Some f) = if f.copied then h else with_copy h address f.to
 
--- the heap after the object at an address is copied, where it has a place to go and wasn't
+-- the heap after the object at an address was copied, if it is planned to move and wasn't
 unfoldable pub copied_first : HeapState → ℕ → HeapState
 copied_first h address = copied_by h address (entry_at h address)
 
--- where the object at an address is, once it is copied
+-- the address of the object at an address, once it is copied
 abbrev pub place_by : Option Forwarding → ℕ → ℕ
 place_by None address = address
 place_by (Some f) address = f.to
 
--- a word that names the copy; its NMT bit stays
+-- a reference to the copy; its NMT bit stays
 unfoldable pub moved_word : HeapState → ℕ × Bool → ℕ × Bool
 moved_word h w = (place_by (entry_at h w.0) w.0, w.1)
 
--- the heap after the object of a word is copied, where it has a place to go and wasn't
+-- the heap after the object of a reference was copied, if it is planned to move and wasn't
 unfoldable pub copied_for : HeapState → Reference → HeapState
 copied_for h None = h
 copied_for h (Some w) = copied_first h w.0
 
--- memory is given up
+-- releasing pages
 
--- a page that gave its memory up
+-- a page that was released
 abbrev pub set_gone_of : Page → Page
 set_gone_of p = record p { state = Gone; frame = None }
 
--- owners of frames, of which one that may be missing is free
+-- owners of frames after one frame, if there is one, became free
 abbrev pub with_free : List (Option ℕ) → Option ℕ → List (Option ℕ)
 with_free owners None = owners
 with_free owners (Some f) = slice_set owners f None
 
--- the store after page n gives its memory up: its frame is free at once, and its side array stays
+-- the store after page n was released: its frame is free at once
 unfoldable pub with_released : StoreState → ℕ → StoreState
 with_released s n = record s {
   pages = change_at s.pages (n - 1) set_gone_of;

@@ -1,4 +1,4 @@
--- What each step does: the tests before its row, and its row.
+-- The effect of each step: the general tests, and then its own outcome.
 use Rattle.std.specs.Prelude.{◌≡◌, ℕ, ◌==◌, Bool, true, false, length, Option, Some, None, slice_get, if◌then◌else◌}
 use Rattle.std.specs.Prelude.{◌&&◌, ◌||◌, not, is_some, Result, Ok, Err, nat_lt, nat_le}
 use Rattle.model.specs.declared.steps.Actor.{Actor}
@@ -61,7 +61,7 @@ no_global h g = nat_le (length h.globals) g
 unfoldable pub no_page : HeapState → ℕ → Bool
 no_page h n = no_page_in h.store n
 
--- a number of the step names nothing
+-- a number of the step is out of range
 abbrev pub has_bad_index : HeapState → Step → Bool
 has_bad_index h (steps.Take n) = (n == 0) || nat_lt h.store.words n
 has_bad_index h (steps.New target layout) = no_register h target || nat_le (length h.config.layouts) layout
@@ -85,12 +85,12 @@ has_bad_index h (steps.Release page) = no_page h page
 has_bad_index h (steps.CrossFor thread) = nat_le (length h.threads) thread
 has_bad_index h _ = false
 
--- a thread that may be missing has an open barrier
+-- a thread, if it exists, has an open barrier
 abbrev pub is_loading_in : Option ThreadState → Bool
 is_loading_in None = false
 is_loading_in (Some t) = is_some t.barrier
 
--- the tests that come before those of a row of a thread's step
+-- the general tests of a thread's step
 unfoldable pub thread_gate : HeapState → ℕ → Step → Result Unit Refusal
 thread_gate h t s =
     if nat_le (length h.threads) t || is_for_workers s then Err refusals.NoActor else
@@ -98,11 +98,11 @@ thread_gate h t s =
     (if is_parked_in (slice_get h.threads t) && not (is_for_parked s) then Err refusals.Parked else
     (if is_loading_in (slice_get h.threads t) && not (is_for_loading s) then Err refusals.Busy else Ok tt)))
 
--- a thread's step has passed the tests before its row
+-- a thread's step passed the general tests
 abbrev pub Passes : HeapState → ℕ → Step → Type 0
 Passes h t s = thread_gate h t s ≡ Ok tt
 
--- the row of a thread's step, without the tests before it
+-- the outcome of a thread's step that passed the general tests
 abbrev pub thread_row : HeapState → ℕ → Step → Outcome
 thread_row h t (steps.Take n) = take_outcome h t n
 thread_row h t steps.GiveBack = give_back_outcome h t
@@ -126,17 +126,17 @@ thread_row h t steps.Park = park_outcome h t
 thread_row h t steps.Unpark = unpark_outcome h t
 thread_row h t _ = Err refusals.NoActor
 
--- the tests that come before those of a row of a worker's step
+-- the general tests of a worker's step
 unfoldable pub worker_gate : HeapState → ℕ → Step → Result Unit Refusal
 worker_gate h w s =
     if nat_le (length h.workers) w || not (is_for_workers s) then Err refusals.NoActor else
     (if has_bad_index h s then Err refusals.BadIndex else Ok tt)
 
--- a worker's step has passed the tests before its row
+-- a worker's step passed the general tests
 abbrev pub WorkerPasses : HeapState → ℕ → Step → Type 0
 WorkerPasses h w s = worker_gate h w s ≡ Ok tt
 
--- the row of a worker's step, without the tests before it
+-- the outcome of a worker's step that passed the general tests
 abbrev pub worker_row : HeapState → ℕ → Step → Outcome
 worker_row h w steps.StartMark = start_mark_outcome h
 worker_row h w (steps.Pick page offset) = pick_outcome h w page offset
@@ -150,7 +150,7 @@ worker_row h w (steps.Release page) = release_outcome h page
 worker_row h w (steps.CrossFor thread) = cross_for_outcome h thread
 worker_row h w _ = Err refusals.NoActor
 
--- what every step does
+-- the outcome of a step
 unfoldable pub outcome : HeapState → Actor → Step → Outcome
 outcome h (Thread t) s = do
   _ ← thread_gate h t s

@@ -1,27 +1,26 @@
--- What the phases of the collector are.
+-- Properties of the collector's phases.
 use Rattle.std.specs.Prelude.{Bool, true, false, not}
 use Rattle.model.specs.declared.records.Phase.{Phase}
 use Rattle.model.specs.declared.records.Phase.TheVariants.{Idle, MarkCrossing, Scanning, ProtectCrossing, Relocating}
 
--- a mark runs (the paper's Mark phase)
+-- a mark runs
 abbrev pub is_marking : Phase → Bool
 is_marking MarkCrossing = true
 is_marking Scanning = true
 is_marking _ = false
 
--- a mark waits for its threads (the paper's checkpoints)
+-- a mark's checkpoint is open
 abbrev pub is_mark_crossing : Phase → Bool
 is_mark_crossing MarkCrossing = true
 is_mark_crossing _ = false
 
--- a checkpoint is open: some thread has still to cross it (the paper's checkpoints)
+-- a checkpoint is open: some thread hasn't crossed it
 abbrev pub is_crossing : Phase → Bool
 is_crossing MarkCrossing = true
 is_crossing ProtectCrossing = true
 is_crossing _ = false
 
--- a mark runs that the thread has crossed, so that its loads trap on words that aren't clean (the paper's read barrier;
--- that they do so before all threads have crossed is ours)
+-- a mark runs that the thread has crossed, so its loads trap on references that aren't clean
 abbrev pub may_nmt_trap : Phase → Bool → Bool
 may_nmt_trap Scanning crossed = true
 may_nmt_trap MarkCrossing crossed = crossed
@@ -32,7 +31,7 @@ abbrev pub same_bit : Bool → Bool → Bool
 same_bit true b = b
 same_bit false b = not b
 
--- a mark may start (the paper's phases)
+-- a mark may start
 abbrev pub may_start_mark : Phase → Bool
 may_start_mark Idle = true
 may_start_mark Relocating = true
@@ -43,7 +42,7 @@ abbrev pub is_idle : Phase → Bool
 is_idle Idle = true
 is_idle _ = false
 
--- pages are protected, and some thread has still to cross (the paper's checkpoints)
+-- pages are protected, and some thread hasn't crossed
 abbrev pub is_protect_crossing : Phase → Bool
 is_protect_crossing ProtectCrossing = true
 is_protect_crossing _ = false

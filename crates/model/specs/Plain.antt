@@ -1,4 +1,4 @@
--- The plain heap: it never moves and never frees an object.
+-- The reference model: it never moves and never frees an object.
 use Rattle.std.specs.Prelude.{ℕ, ◌==◌, Bool, true, false, List, [], ◌∷◌, ◌++◌, length, replicate, Option, Some, None}
 use Rattle.std.specs.Prelude.{slice_get, slice_set, is_none}
 use Rattle.layout.specs.declared.shape.Layout.{Layout}
@@ -17,23 +17,23 @@ pub record Object : Type 0 where
   pub refs : List (Option ℕ)
   pub data_words : List ℕ
 
--- the register that a load is for, and the birth that it loads, or none
+-- the register that a load is for, and the birth that it loaded, or none
 pub record Pending : Type 0 where
   pub target : ℕ
   pub found : Option ℕ
 
--- a thread: the birth in each register, or none, and its load that isn't finished
+-- a thread: the birth in each register, or none, and its unfinished load
 pub record PlainThread : Type 0 where
   pub registers : List (Option ℕ)
   pub pending : Option Pending
 
--- the object of birth b stands at b of objects
+-- the object of birth b is at index b of objects
 pub record PlainHeap : Type 0 where
   pub objects : List Object
   pub threads : List PlainThread
   pub globals : List (Option ℕ)
 
--- what is there
+-- reading
 
 -- the birth in register r of a thread that may be missing
 abbrev pub name_in : Option PlainThread → ℕ → Option ℕ
@@ -64,13 +64,13 @@ abbrev pub pending_in : Option PlainThread → Option Pending
 pending_in None = None
 pending_in (Some t) = t.pending
 
--- what changes
+-- changing
 
 -- a thread with another birth in register r
 abbrev pub set_name : ℕ → Option ℕ → PlainThread → PlainThread
 set_name r b t = record t { registers = slice_set t.registers r b }
 
--- the plain heap with another birth in a register
+-- the reference model with another birth in a register
 unfoldable pub name_register : PlainHeap → ℕ → ℕ → Option ℕ → PlainHeap
 name_register p t r b = record p { threads = change_at p.threads t (set_name r b) }
 
@@ -78,7 +78,7 @@ name_register p t r b = record p { threads = change_at p.threads t (set_name r b
 abbrev pub blank_object : ℕ → Layout → Object
 blank_object number l = record { layout = number; refs = replicate l.refs None; data_words = replicate l.nums 0 }
 
--- one more birth, named by a register
+-- one more birth, to which a register refers
 abbrev pub add_birth : PlainHeap → ℕ → ℕ → ℕ → Option Layout → PlainHeap
 add_birth p t r number None = p
 add_birth p t r number (Some l) =
@@ -88,16 +88,16 @@ add_birth p t r number (Some l) =
 abbrev pub start_load : ℕ → Option ℕ → PlainThread → PlainThread
 start_load r b t = record t { pending = Some (record { target = r; found = b }) }
 
--- what a load finds becomes pending; nothing, where there is no such place
+-- a load becomes pending with the birth that it found; nothing changes if there is no such place
 abbrev pub begin_load : PlainHeap → ℕ → ℕ → Option (Option ℕ) → PlainHeap
 begin_load p t r None = p
 begin_load p t r (Some b) = record p { threads = change_at p.threads t (start_load r b) }
 
--- a thread whose load is done: its register has what the load found
+-- a thread whose load ended: its register has what the load found
 abbrev pub end_load : Pending → PlainThread → PlainThread
 end_load l t = record t { registers = slice_set t.registers l.target l.found; pending = None }
 
--- the load of a thread is done; nothing, where there is none
+-- the load of a thread ends; nothing changes if there is none
 abbrev pub finish_pending : PlainHeap → ℕ → Option Pending → PlainHeap
 finish_pending p t None = p
 finish_pending p t (Some l) = record p { threads = change_at p.threads t (end_load l) }
@@ -106,7 +106,7 @@ finish_pending p t (Some l) = record p { threads = change_at p.threads t (end_lo
 abbrev pub set_field : ℕ → Option ℕ → Object → Object
 set_field i b o = record o { refs = slice_set o.refs i b }
 
--- a birth gets another reference i; nothing, where there is no birth
+-- reference i of a birth changes; nothing does if there is no birth
 abbrev pub store_field : PlainHeap → Option ℕ → ℕ → Option ℕ → PlainHeap
 store_field p None i b = p
 store_field p (Some a) i b = record p { objects = change_at p.objects a (set_field i b) }
@@ -115,12 +115,12 @@ store_field p (Some a) i b = record p { objects = change_at p.objects a (set_fie
 abbrev pub set_datum : ℕ → ℕ → Object → Object
 set_datum j v o = record o { data_words = slice_set o.data_words j v }
 
--- a birth gets another datum j; nothing, where there is no birth
+-- datum j of a birth changes; nothing does if there is no birth
 abbrev pub write_datum : PlainHeap → Option ℕ → ℕ → ℕ → PlainHeap
 write_datum p None j v = p
 write_datum p (Some a) j v = record p { objects = change_at p.objects a (set_datum j v) }
 
--- what a step of thread t does to the plain heap
+-- the effect of thread t's step on the reference model
 abbrev pub thread_plain : List Layout → PlainHeap → ℕ → Step → PlainHeap
 thread_plain ls p t (steps.New target layout) = add_birth p t target layout (slice_get ls layout)
 thread_plain ls p t (steps.Load target object field) =
@@ -135,12 +135,12 @@ thread_plain ls p t (steps.CopyReg target source) = name_register p t target (na
 thread_plain ls p t (steps.ClearReg target) = name_register p t target None
 thread_plain ls p t _ = p
 
--- what a step does to the plain heap: that of a worker nothing
+-- the effect of a step on the reference model: a worker's has none
 unfoldable pub plain_step : List Layout → PlainHeap → Actor → Step → PlainHeap
 plain_step ls p (Thread t) s = thread_plain ls p t s
 plain_step ls p (Worker w) s = p
 
--- the answer that tells a datum, where there is one
+-- the answer with a datum, if there is one
 abbrev pub as_datum : Option ℕ → Option Answer
 as_datum None = None
 as_datum (Some v) = Some (answers.Datum v)
@@ -151,7 +151,7 @@ same_name None None = true
 same_name (Some a) (Some b) = a == b
 same_name _ _ = false
 
--- what the plain heap answers thread t, where it says anything
+-- the reference model's answer to thread t, if it has one
 abbrev pub thread_answer : PlainHeap → ℕ → Step → Option Answer
 thread_answer p t (steps.New target layout) = Some (answers.Birth (length p.objects))
 thread_answer p t (steps.Datum object index) = as_datum (datum_of (object_of p (name_of p t object)) index)
@@ -159,12 +159,12 @@ thread_answer p t (steps.Same left right) = Some (answers.Truth (same_name (name
 thread_answer p t (steps.IsNull r) = Some (answers.Truth (is_none (name_of p t r)))
 thread_answer p t _ = None
 
--- what the plain heap answers, where it says anything
+-- the reference model's answer, if it has one
 unfoldable pub plain_answer : PlainHeap → Actor → Step → Option Answer
 plain_answer p (Thread t) s = thread_answer p t s
 plain_answer p (Worker w) s = None
 
--- the plain heap without births
+-- the first reference model, without births
 unfoldable pub plain_start : Config → PlainHeap
 plain_start c = record {
   objects = [];

@@ -1,5 +1,4 @@
--- Plans: where the live objects of pages go (ours), and the side arrays that say so (the paper's Relocate phase:
--- forwarding stands apart from the page).
+-- Plans: the places of pages' live objects, and the forwarding tables with them.
 use Rattle.std.specs.List.{flat_map}
 use Rattle.std.specs.Prelude.{ℕ, ◌+◌, ◌-◌, ◌*◌, ◌==◌, Bool, true, false, List, [], ◌∷◌, map, zip, get_or}
 use Rattle.std.specs.Prelude.{slice_set, Option, Some, None, nat_le, if◌then◌else◌}
@@ -12,9 +11,8 @@ use Rattle.model.specs.Data.{layout_at}
 
 -- places
 
--- Where objects of these sizes go, of which the first begins at this offset of this target if it fits there: each
--- behind the one before, or at the head of the next target where it doesn't fit. A place is a target, from 0, and an
--- offset.
+-- The places of objects of these sizes. The first is at this offset of this target if it fits there; each is after
+-- the one before, or at the start of the next target if it doesn't fit. A place is a target, from 0, and an offset.
 abbrev pub places_from : ℕ → ℕ → ℕ → List ℕ → List (ℕ × ℕ)
 places_from words target offset [] = []
 places_from words target offset (n ∷ ns) =
@@ -29,7 +27,7 @@ target_count (p ∷ q ∷ ps) = target_count (q ∷ ps)
 
 -- what is planned
 
--- the offsets of the bits that are set, rising, in a row whose first bit has this offset
+-- the offsets, rising, of the bits that are set in a bitmap whose first bit has this offset
 abbrev pub offsets_from : ℕ → List Bool → List ℕ
 offsets_from o [] = []
 offsets_from o (true ∷ bits) = o ∷ offsets_from (o + 1) bits
@@ -47,12 +45,12 @@ live_on h n = map (λ o. n * h.store.words + o) (live_offsets h n)
 unfoldable pub live_objects : HeapState → List ℕ → List ℕ
 live_objects h pages = flat_map (live_on h) pages
 
--- how many words the object of a layout has; one that can't be read counts as its header alone (ours)
+-- the number of words of an object of a layout; 1, for the header alone, if there is no layout
 abbrev pub words_of : Option Layout → ℕ
 words_of None = 1
 words_of (Some l) = size_of l
 
--- how many words the object at an address has
+-- the number of words of the object at an address
 unfoldable pub object_words : HeapState → ℕ → ℕ
 object_words h address = words_of (layout_at h address)
 
@@ -60,27 +58,27 @@ object_words h address = words_of (layout_at h address)
 unfoldable pub plan_of : HeapState → List ℕ → List (ℕ × ℕ)
 plan_of h pages = places_from h.store.words 0 0 (map (object_words h) (live_objects h pages))
 
--- the address of a place, in targets of which these are the pages
+-- the address of a place, in targets on these pages
 abbrev pub address_in : ℕ → List ℕ → ℕ × ℕ → ℕ
 address_in words targets p = get_or targets p.0 0 * words + p.1
 
--- each live object of pages beside the address that it goes to, in targets of which these are the pages
+-- each live object of pages, paired with its new address in targets on these pages
 unfoldable pub moves_of : HeapState → List ℕ → List ℕ → List (ℕ × ℕ)
 moves_of h pages targets = zip (live_objects h pages) (map (address_in h.store.words targets) (plan_of h pages))
 
--- side arrays
+-- forwarding tables
 
--- where the object at an address goes; 0 where nothing is planned for it
+-- the new address of the object at an address; 0 if none is planned
 abbrev pub place_of : List (ℕ × ℕ) → ℕ → ℕ
 place_of [] a = 0
 place_of (m ∷ ms) a = if m.0 == a then m.1 else place_of ms a
 
--- the side array of page n: its live objects, and where they go
+-- the forwarding table of page n: its live objects, and their new addresses
 unfoldable pub side_of : HeapState → List (ℕ × ℕ) → ℕ → List Forwarding
 side_of h moves n = map
     (λ o. record { offset = o; to = place_of moves (n * h.store.words + o); copied = false }) (live_offsets h n)
 
--- side arrays of which those of these pages are made of moves
+-- forwarding tables after those of these pages were made from moves
 abbrev pub with_sides : HeapState → List (ℕ × ℕ) → List ℕ → List (List Forwarding) → List (List Forwarding)
 with_sides h moves [] sides = sides
 with_sides h moves (n ∷ ns) sides = with_sides h moves ns (slice_set sides (n - 1) (side_of h moves n))

@@ -1,4 +1,4 @@
--- Scans: workers mark what objects and globals refer to (the paper's Mark phase).
+-- Scans: workers mark the references of objects and globals.
 use Rattle.std.specs.List.{list_any, range_with_len}
 use Rattle.std.specs.Prelude.{ℕ, ◌+◌, ◌*◌, ◌/◌, ◌%◌, ◌==◌, ◌&&◌, ◌||◌, Bool, false, not, length, find, position}
 use Rattle.std.specs.Prelude.{Option, Some, None, is_some, nat_lt, slice_get, slice_set, if◌then◌else◌, Result, Ok, Err}
@@ -20,9 +20,9 @@ use Rattle.model.specs.Marks.{with_mark, marked_word}
 use Rattle.model.specs.Moves.{copied_for}
 use Rattle.model.specs.Checkpoints.{all_crossed}
 
--- what is scanned
+-- scans of workers
 
--- what a worker scans, none where there is no such worker
+-- what a worker scans; none if there is no such worker
 abbrev pub scan_of : HeapState → ℕ → Option Scan
 scan_of h w = flat (slice_get h.workers w)
 
@@ -30,11 +30,11 @@ scan_of h w = flat (slice_get h.workers w)
 unfoldable pub with_scan : HeapState → ℕ → Option Scan → HeapState
 with_scan h w s = record h { workers = slice_set h.workers w s }
 
--- a scan that begins
+-- a scan at its start
 abbrev pub first_field : ℕ → Scan
 first_field address = record { object = address; next = 0 }
 
--- a scan that has passed one more field
+-- a scan after one more field
 abbrev pub next_field : Scan → Scan
 next_field s = record s { next = s.next + 1 }
 
@@ -51,7 +51,7 @@ is_taken h address = list_any (is_scan_of address) h.workers
 unfoldable pub may_scan : HeapState → Result Unit Refusal
 may_scan h = if is_marking h.phase then all_crossed h else Err refusals.Phase
 
--- the row of Pick
+-- the outcome of Pick
 unfoldable pub pick_outcome : HeapState → ℕ → ℕ → ℕ → Outcome
 pick_outcome h w page offset = do
   _ ← may_scan h
@@ -61,18 +61,18 @@ pick_outcome h w page offset = do
 
 -- fields
 
--- the reference at a place in memory, null where the place has no memory
+-- the reference at a place in memory; null if the place has no memory
 abbrev pub reference_in : Option ℕ → Reference
 reference_in None = None
 reference_in (Some bits) = read_reference bits
 
--- the heap after a word is marked where its object is now, and written back to a place in memory
+-- the heap after a reference was marked, and written back corrected to a place in memory
 unfoldable pub with_marked_place : HeapState → ℕ → Reference → HeapState
 with_marked_place h place v =
     record (with_mark h v) { store = with_word h.store place (bits_of (marked_word h v)) }
 
--- the heap after the word at a place in memory is marked, and written back; its object is copied first where it wasn't
--- (ours)
+-- the heap after the reference at a place in memory was marked, and written back; its object is copied first if it
+-- isn't copied
 unfoldable pub mark_place : HeapState → ℕ → Reference → HeapState
 mark_place h place v = with_marked_place (copied_for h v) place v
 
@@ -80,7 +80,7 @@ mark_place h place v = with_marked_place (copied_for h v) place v
 unfoldable pub with_scan_end : HeapState → ℕ → Scan → HeapState
 with_scan_end h w s = record (with_scan h w None) { todo = with_bit h.todo h.store.words s.object false }
 
--- a worker goes on with its object, of which this is the place of the next field, if one is left
+-- a step of a worker's scan, by the place of the next field, if one is left
 abbrev pub scan_next : HeapState → ℕ → Scan → Option ℕ → Outcome
 scan_next h w s None = Ok (with_scan_end h w s, answers.Finished)
 scan_next h w s (Some place) = Ok (
@@ -88,7 +88,7 @@ scan_next h w s (Some place) = Ok (
   answers.Scanned,
 )
 
--- the row of ScanField
+-- the outcome of ScanField
 unfoldable pub scan_field_outcome : HeapState → ℕ → Outcome
 scan_field_outcome h w = do
   _ ← may_scan h
@@ -97,52 +97,52 @@ scan_field_outcome h w = do
 
 -- globals
 
--- a global that may be missing is still to be marked
+-- a global, if it exists, is grey
 abbrev pub is_todo_in : Option Global → Bool
 is_todo_in None = false
 is_todo_in (Some g) = g.todo
 
--- a global that is marked, with its word
+-- a global that isn't grey, with a reference
 abbrev pub set_marked_of : Reference → Global → Global
 set_marked_of w g = record g { word = w; todo = false }
 
--- the heap after a word is marked where its object is now, and put into a global, which is marked
+-- the heap after a reference was marked, and written back corrected to a global, which isn't grey then
 unfoldable pub with_marked_global : HeapState → ℕ → Reference → HeapState
 with_marked_global h g v =
     record (with_mark h v) { globals = change_at h.globals g (set_marked_of (marked_word h v)) }
 
--- the heap after a global is marked, and written back; its object is copied first where it wasn't (ours)
+-- the heap after a global was marked, and written back; its object is copied first if it isn't copied
 unfoldable pub mark_global : HeapState → ℕ → HeapState
 mark_global h g = with_marked_global (copied_for h (global_of h g)) g (global_of h g)
 
--- the row of ScanGlobal
+-- the outcome of ScanGlobal
 unfoldable pub scan_global_outcome : HeapState → ℕ → Outcome
 scan_global_outcome h g = do
   _ ← may_scan h
   if is_todo_in (slice_get h.globals g) then Ok (mark_global h g, answers.Done) else Err refusals.NotTodo
 
--- what is left
+-- the next step
 
--- the object at an address is still to be scanned, and no worker has it
+-- the object at an address is grey, and no worker has it
 unfoldable pub is_free_todo : HeapState → ℕ → Bool
 is_free_todo h address = bit_at h.todo h.store.words address && not (is_taken h address)
 
--- the least address of an object that is still to be scanned and that no worker has
+-- the lowest address of a grey object that no worker has
 unfoldable pub next_todo : HeapState → Option ℕ
 next_todo h = find (is_free_todo h) (range_with_len h.store.words (length h.todo * h.store.words))
 
--- the object at an address that may be missing is picked
+-- picking the object at an address, if there is one
 abbrev pub pick_step : ℕ → Option ℕ → Option Step
 pick_step words None = None
 pick_step words (Some address) = Some (steps.Pick (address / words) (address % words))
 
--- a global that may be missing is marked, else this step is done
+-- marking a global, if there is one, else another step
 abbrev pub global_step_or : Option Step → Option ℕ → Option Step
 global_step_or other None = other
 global_step_or other (Some g) = Some (steps.ScanGlobal g)
 
--- what a worker does next that drains the mark: it scans the object that it has; else it marks the first global that is
--- still to be marked; else it picks the next object; nothing where nothing is left to be picked
+-- a worker's next step in a mark drain: it scans the object that it has; else it marks the first grey global; else it
+-- picks the next object; none if no object is left
 unfoldable pub next_drain : HeapState → ℕ → Option Step
 next_drain h w = if is_some (scan_of h w) then Some steps.ScanField else
     global_step_or (pick_step h.store.words (next_todo h)) (position (λ (g : Global). g.todo) h.globals)

@@ -10,12 +10,12 @@ use Rattle.model.specs.declared.records.Phase.{Phase}
 use Rattle.model.specs.declared.records.Tally.{Tally}
 use Rattle.model.specs.Stores.{StoreState}
 
--- null, or an address with its not-marked-through bit
+-- null, or an address with its NMT bit
 abbrev pub Reference : Type 0
 Reference = Option (ℕ × Bool)
 
--- a thread: its registers, its buffer, whether it has crossed and is parked, its load that isn't finished, and what its
--- loads have come to
+-- a thread: its registers, its buffer, whether it has crossed and is parked, its open barrier, and its barrier
+-- counters
 pub record ThreadState : Type 0 where
   pub registers : List Reference
   pub buffer : Option Buffer
@@ -24,8 +24,8 @@ pub record ThreadState : Type 0 where
   pub barrier : Option Barrier
   pub tally : Tally
 
--- A heap: all that it keeps, and how many objects were born.
--- Rows have a bit for each word of a page that is used; a page's row stands where its record does in the store.
+-- The state of a heap. Each bitmap of a used page has a bit for each of its words; a page's bitmap has the index of
+-- the page's record in the store.
 pub record HeapState : Type 0 where
   pub config : Config
   pub store : StoreState
@@ -41,7 +41,7 @@ pub record HeapState : Type 0 where
   pub nmt : Bool
   pub births : ℕ
 
--- what an option in an option holds
+-- the value of an option in an option
 abbrev pub flat : {X : Type 0} → Option (Option X) → Option X
 flat None = None
 flat (Some o) = o

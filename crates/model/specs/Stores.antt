@@ -10,9 +10,9 @@ use Rattle.model.specs.declared.records.Buffer.{Buffer}
 use Rattle.model.specs.declared.records.Room.{Room}
 use Rattle.model.specs.declared.records.Room.TheVariants.{NoFrames, NoPages, NoMemory}
 
--- A store: the words of a page, the number of pages, their records, and the frames with their owners.
--- Page n has its record at n - 1 of pages; a page without a record is unused.
--- Each frame has at most one owner, the number of a page, and then the words of a page; a free frame has none.
+-- A store: the words of a page, the number of pages, their records, and the frames with their owners. Page n has its
+-- record at n - 1 of pages; a page without a record is unused. Each frame has at most one owner, the number of a
+-- page, and then the words of a page; a free frame has none.
 pub record StoreState : Type 0 where
   pub words : ℕ
   pub count : ℕ
@@ -20,18 +20,18 @@ pub record StoreState : Type 0 where
   pub frames : List (List ℕ)
   pub owners : List (Option ℕ)
 
--- what a page is
+-- pages
 
 -- the record of page n
 unfoldable pub page_at : StoreState → ℕ → Option Page
 page_at s n = if n == 0 then None else slice_get s.pages (n - 1)
 
--- how a page is used that may have no record
+-- the state of a page that may have no record
 abbrev pub state_in : Option Page → PageState
 state_in None = Unused
 state_in (Some p) = p.state
 
--- how page n is used
+-- the state of page n
 unfoldable pub state_at : StoreState → ℕ → PageState
 state_at s n = state_in (page_at s n)
 
@@ -56,13 +56,13 @@ has_memory Unused = false
 has_memory Gone = false
 has_memory _ = true
 
--- pages of this state are being emptied, or were
+-- pages of this state are protected: From or Gone
 abbrev pub is_protected : PageState → Bool
 is_protected From = true
 is_protected Gone = true
 is_protected _ = false
 
--- pages of this state are being emptied, and have memory
+-- pages of this state are From
 abbrev pub is_from : PageState → Bool
 is_from From = true
 is_from _ = false
@@ -74,7 +74,7 @@ abbrev pub at_offset : Option ℕ → ℕ → Option (ℕ × ℕ)
 at_offset None o = None
 at_offset (Some f) o = Some (f, o)
 
--- the frame and the offset behind an address
+-- the frame and the offset of an address
 unfoldable pub spot_of : StoreState → ℕ → Option (ℕ × ℕ)
 spot_of s address = at_offset (frame_in (page_at s (address / s.words))) (address % s.words)
 
@@ -92,7 +92,7 @@ abbrev pub changed_frame : List (List ℕ) → ℕ → Option (List ℕ) → (Li
 changed_frame frames f None change = frames
 changed_frame frames f (Some ws) change = slice_set frames f (change ws)
 
--- the same, where it may be that there is no f
+-- the same, if f itself may be missing
 abbrev pub changed_in : List (List ℕ) → Option ℕ → (List ℕ → List ℕ) → List (List ℕ)
 changed_in frames None change = frames
 changed_in frames (Some f) change = changed_frame frames f (slice_get frames f) change
@@ -109,17 +109,17 @@ with_word s address v = with_words s (address / s.words) (λ ws. slice_set ws (a
 unfoldable pub words_at : StoreState → ℕ → Option (List ℕ)
 words_at s n = option_and_then (slice_get s.frames) (frame_in (page_at s n))
 
--- words with others written over them from an offset on; what would go past their end is cut off
+-- words with others written over them from an offset on; what would go past their end is left out
 abbrev pub overlay : List ℕ → ℕ → List ℕ → List ℕ
 overlay ws o xs = take (length ws) (take o ws ++ (xs ++ drop (length xs) (drop o ws)))
 
 -- buffers
 
--- the page has so many words left
+-- n more words can be taken in the page
 abbrev pub has_room : ℕ → ℕ → Page → Bool
 has_room words n p = is_open p.state && nat_le n (words - p.top)
 
--- the index of the lowest open page with room
+-- the index of the lowest open page with space
 unfoldable pub page_with_room : ℕ → ℕ → List Page → Option ℕ
 page_with_room words n pages = position (has_room words n) pages
 
@@ -127,7 +127,7 @@ page_with_room words n pages = position (has_room words n) pages
 unfoldable pub free_frame : List (Option ℕ) → Option ℕ
 free_frame owners = position is_none owners
 
--- the index that was found, else that of the first page past the list, if there is one
+-- the index that was found, else that of the first page past the list, if it exists
 abbrev pub unused_in : ℕ → List Page → Option ℕ → Option ℕ
 unused_in count pages (Some i) = Some i
 unused_in count pages None = if nat_lt (length pages) count then Some (length pages) else None
@@ -136,7 +136,7 @@ unused_in count pages None = if nat_lt (length pages) count then Some (length pa
 unfoldable pub unused_page : ℕ → List Page → Option ℕ
 unused_page count pages = unused_in count pages (position (λ p. is_unused p.state) pages)
 
--- frames, of which one that may be missing has no words any more
+-- frames after one, if there is one, lost its words
 abbrev pub with_empty : List (List ℕ) → Option ℕ → List (List ℕ)
 with_empty frames None = frames
 with_empty frames (Some f) = slice_set frames f []
@@ -153,7 +153,7 @@ open_fresh s i f = record s {
   owners = slice_set s.owners f (Some (i + 1));
 }
 
--- how many words were given out of a page that may have no record
+-- how many words were given out of a page; 0 if it has no record
 abbrev pub top_in : Option Page → ℕ
 top_in None = 0
 top_in (Some p) = p.top
@@ -172,7 +172,7 @@ unfoldable pub give_words : StoreState → ℕ → ℕ → StoreState × Buffer
 give_words s i n =
     (record s { pages = raise_top s.pages i (slice_get s.pages i) n }, buffer_of i (top_in (slice_get s.pages i)) n)
 
--- n words of a fresh page, of this index and on this frame, where there are both
+-- n words of a fresh page, of this index and on this frame, if there are both
 abbrev pub take_fresh : StoreState → ℕ → Option ℕ → Option ℕ → Result (StoreState × Buffer) Room
 take_fresh s n None i = Err NoFrames
 take_fresh s n (Some f) None = Err NoPages
@@ -183,25 +183,24 @@ abbrev pub take_at : StoreState → ℕ → Option ℕ → Result (StoreState ×
 take_at s n (Some i) = Ok (give_words s i n)
 take_at s n None = take_fresh s n (free_frame s.owners) (unused_page s.count s.pages)
 
--- a buffer of n words: in the lowest open page with room, else in the lowest unused page, opened on the lowest free
+-- a buffer of n words: in the lowest open page with space, else in the lowest unused page, opened on the lowest free
 -- frame
 unfoldable pub take_buffer : StoreState → ℕ → Result (StoreState × Buffer) Room
 take_buffer s n = take_at s n (page_with_room s.words n s.pages)
 
--- a call that took a buffer, or changed nothing
+-- a call that took a buffer, or failed and changed nothing
 abbrev pub Takes : StoreState → Result Buffer Room → StoreState → Result (StoreState × Buffer) Room → Type 0
 Takes old (Ok b) new outcome = outcome ≡ Ok (new, b)
 Takes old (Err e) new outcome = (outcome ≡ Err e) × (new ≡ old)
 
--- the same, or memory ran out, and nothing changed
+-- the same, or it failed with NoMemory, and nothing changed
 abbrev pub TakesOrLacks : StoreState → Result Buffer Room → StoreState → Result (StoreState × Buffer) Room → Type 0
 TakesOrLacks old (Err NoMemory) new outcome = new ≡ old
 TakesOrLacks old result new outcome = Takes old result new outcome
 
 -- pages after a mark
 
--- a page after a mark: an open one without a lent buffer closes (ours), and a protected one is unused again (the
--- paper's Remap phase)
+-- a page after a mark: an open one without a lent buffer closes, and a protected one is unused again
 abbrev pub page_after_mark : Bool → Page → Page
 page_after_mark lent p =
     if is_protected p.state then record p { state = Unused; frame = None } else
@@ -212,7 +211,7 @@ abbrev pub pages_after_mark : (ℕ → Bool) → ℕ → List Page → List Page
 pages_after_mark lent n [] = []
 pages_after_mark lent n (p ∷ ps) = page_after_mark (lent n) p ∷ pages_after_mark lent (n + 1) ps
 
--- the owner of a frame after a mark: protected pages give theirs up
+-- the owner of a frame after a mark: protected pages lose theirs
 abbrev pub owner_after_mark : StoreState → Option ℕ → Option ℕ
 owner_after_mark s None = None
 owner_after_mark s (Some n) = if is_protected (state_at s n) then None else Some n
@@ -236,13 +235,13 @@ store_after_mark lent s = record s {
   owners = map (owner_after_mark s) s.owners;
 }
 
--- a store as it begins
+-- the first store
 
 -- a page that was never used
 abbrev pub blank_page : Page
 blank_page = record { state = Unused; frame = None; top = 0 }
 
--- how many pages have records: no more are ever in use
+-- how many pages have records: no more are ever in use at once
 abbrev pub record_count : ℕ → ℕ → ℕ
 record_count frames pages = if nat_le pages (2 * frames) then pages else 2 * frames
 

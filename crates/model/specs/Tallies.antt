@@ -1,4 +1,4 @@
--- What a thread's read barrier counts (ours).
+-- The barrier counters of a thread.
 use Rattle.std.specs.Prelude.{ℕ, ◌+◌, ◌-◌, ◌^◌, min, Option, Some, None}
 use Rattle.model.specs.declared.records.Tally.{Tally}
 use Rattle.model.specs.declared.records.Counter.{Counter}
@@ -8,19 +8,19 @@ use Rattle.model.specs.declared.steps.Answer.TheVariants as answers
 use Rattle.model.specs.declared.steps.Step.{Step}
 use Rattle.model.specs.declared.steps.Step.TheVariants as steps
 
--- nothing was counted so far
+-- all counters are 0
 abbrev pub blank_tally : Tally
 blank_tally = record { loads = 0; gc = 0; nmt = 0; healed = 0; changed = 0 }
 
--- the greatest number that is counted to
+-- the greatest value of a counter
 abbrev pub most_counted : ℕ
 most_counted = 2 ^ 64 - 1
 
--- one more, up to the greatest
+-- one more, up to the greatest value
 abbrev pub one_more : ℕ → ℕ
 one_more n = min (n + 1) most_counted
 
--- a tally with one more of a number
+-- the counters after one was incremented
 abbrev pub counted : Counter → Tally → Tally
 counted counters.Loads y = record y { loads = one_more y.loads }
 counted counters.Gc y = record y { gc = one_more y.gc }
@@ -28,7 +28,7 @@ counted counters.Nmt y = record y { nmt = one_more y.nmt }
 counted counters.Healed y = record y { healed = one_more y.healed }
 counted counters.Changed y = record y { changed = one_more y.changed }
 
--- which number an accepted step of a thread with this answer raises, if any
+-- the counter that an accepted step of a thread with this answer increments, if any
 abbrev pub counter_of : Step → Answer → Option Counter
 counter_of (steps.Load target object field) answer = Some counters.Loads
 counter_of (steps.LoadGlobal target global) answer = Some counters.Loads

@@ -1,10 +1,10 @@
--- The texts of refusals.
+-- The texts of errors.
 use Rattle.std.specs.Prelude.{ℕ, List, ◌++◌, codes}
 use Rattle.std.specs.Fmt.{decimal}
 use Rattle.model.specs.declared.steps.Refusal.{Refusal}
 use Rattle.model.specs.declared.steps.Refusal.TheVariants as refusals
 
--- the text of a refusal: its name, then its numbers
+-- the text of an error: its name, then its numbers
 abbrev pub refusal_text : Refusal → List ℕ
 refusal_text refusals.NoActor = codes "NoActor"
 refusal_text refusals.BadIndex = codes "BadIndex"

@@ -1,4 +1,4 @@
--- The record of a thread: what is read of it, and its edits.
+-- The record of a thread: its readers and its edits.
 use Rattle.std.specs.Prelude.{ℕ, Bool, true, false, Option, Some, None, slice_get, slice_set}
 use Rattle.model.specs.declared.records.Buffer.{Buffer}
 use Rattle.model.specs.declared.records.Barrier.{Barrier}
@@ -17,12 +17,12 @@ abbrev pub is_parked_in : Option ThreadState → Bool
 is_parked_in None = false
 is_parked_in (Some t) = t.parked
 
--- the word in register r of a thread that may be missing
+-- the reference in register r of a thread that may be missing
 abbrev pub register_in : Option ThreadState → ℕ → Reference
 register_in None r = None
 register_in (Some t) r = flat (slice_get t.registers r)
 
--- a thread with another word in register r
+-- a thread with another reference in register r
 abbrev pub set_register_of : ℕ → Reference → ThreadState → ThreadState
 set_register_of r w t = record t { registers = slice_set t.registers r w }
 
@@ -35,11 +35,11 @@ abbrev pub buffer_in : Option ThreadState → Option Buffer
 buffer_in None = None
 buffer_in (Some t) = t.buffer
 
--- a thread whose barrier is opened or changed, which is counted
+-- a thread whose barrier was opened or changed, which is counted
 abbrev pub set_barrier_of : Barrier → Counter → ThreadState → ThreadState
 set_barrier_of b c t = record t { barrier = Some b; tally = counted c t.tally }
 
--- the tally of a thread that may be missing
+-- the barrier counters of a thread that may be missing
 abbrev pub tally_in : Option ThreadState → Option Tally
 tally_in None = None
 tally_in (Some t) = Some t.tally
@@ -49,7 +49,7 @@ abbrev pub barrier_of : Option ThreadState → Option Barrier
 barrier_of None = None
 barrier_of (Some t) = t.barrier
 
--- a thread whose barrier is closed, and whose register r has the word that was loaded
+-- a thread whose barrier is closed, and whose register r has the reference that was loaded
 abbrev pub set_loaded_of : ℕ → Reference → ThreadState → ThreadState
 set_loaded_of r w t = record t { registers = slice_set t.registers r w; barrier = None }
 
@@ -57,6 +57,6 @@ set_loaded_of r w t = record t { registers = slice_set t.registers r w; barrier 
 abbrev pub set_parked_of : Bool → ThreadState → ThreadState
 set_parked_of b t = record t { parked = b }
 
--- a thread that has crossed, or has still to cross
+-- a thread that has crossed, or hasn't
 abbrev pub set_crossed_of : Bool → ThreadState → ThreadState
 set_crossed_of b t = record t { crossed = b }

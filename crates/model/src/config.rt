@@ -1,4 +1,4 @@
-//! What a heap is made with.
+//! The configuration of a heap.
 
 ghost use Rattle.std.specs.Prelude.{◌≡◌, ◌==◌, IfOk, IfNone, IfSome};
 ghost use Rattle.std.specs.List.{list_all};
@@ -12,7 +12,7 @@ use layout::{Layout, Layouts};
 use std::alloc::{AllocError, Global};
 use thiserror::Error;
 
-/// The sizes and limits of a heap. Each field says its range; the limits are ours.
+/// The sizes and limits of a heap. Each field has its range.
 #[derive(Debug, Drop)]
 pub struct Config {
     /// The words of a page: 16 to 32,768, a power of two.
@@ -32,9 +32,9 @@ pub struct Config {
     /// The layouts: 1 to 256, each of at most 1,023 reference words and 1,023 data words, and of a
     /// size of at most the words of a page.
     pub layouts: Layouts,
-    /// How many objects may be born: 1 to 2^56.
+    /// The greatest number of births: 1 to 2^56.
     pub births: u64,
-    /// How many entries a history may have: 1 to 1,000,000.
+    /// The greatest number of entries of a history: 1 to 1,000,000.
     pub history: u64,
 }
 
@@ -74,18 +74,18 @@ pub enum ConfigFault {
 }
 
 impl Config {
-    /// A configuration of so many frames of so many words, with these layouts. The rest has values
-    /// that serve most heaps; each is a field, to be set to another one (ours):
+    /// Returns the default configuration for a number of frames of a number of words each, with these layouts. The
+    /// other fields have values that are right for most heaps; each may be changed:
     ///
     /// | Field | Value |
     /// |---|---|
-    /// | `pages` | twice as many as frames, since no more are ever in use at once; 1,048,575 at most |
+    /// | `pages` | twice the frames, since no more are ever in use at once; 1,048,575 at most |
     /// | `threads`, `workers` | 1 of each |
-    /// | `registers`, `globals` | 16 of each thread, and 64 |
-    /// | `births`, `history` | 2^56, and 1,000,000: as many as there may be |
+    /// | `registers`, `globals` | 16 for each thread, and 64 |
+    /// | `births`, `history` | 2^56, and 1,000,000: the greatest values |
     ///
-    /// Words, frames and layouts are taken as they are; `fault` tells whether they are in range,
-    /// and nothing else can be out of it.
+    /// Words, frames and layouts are taken as they are; only they can be out of range, and `fault` returns whether
+    /// one is.
     #[tactic(auto, unfolding(crate::specs::Configs::usual_config))]
     pub fn new(words: u32, frames: u32, layouts: Layouts) -> Config
         ensures value { result ≡ usual_config words frames layouts }
@@ -105,8 +105,7 @@ impl Config {
         }
     }
 
-    /// The first field that is out of its range, in the order of the fields; `None` where all
-    /// are in range.
+    /// Returns the first field that is out of its range, in the order of the fields; `None` if all are in range.
     #[tactic(auto, using(crate::proofs::Ranges::none_in_range))]
     pub fn fault(&self) -> Option<ConfigFault>
         ensures first { result ≡ first_fault self.now }
@@ -148,7 +147,7 @@ impl Config {
         }
     }
 
-    /// A second configuration of the same values.
+    /// Returns a copy of the configuration. Fails only if out of memory.
     pub fn copy(&self, alloc: Global) -> Result<Config, AllocError>
         ensures { IfOk result (λ c. c ≡ self.now) }
     {

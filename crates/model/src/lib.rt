@@ -1,8 +1,7 @@
-//! The words that all crates of the heap share: who acts, what is done and answered, and the
-//! records of a heap's state. The definitions over them stand in `specs/`.
+//! The types that all crates of the heap share: actors, steps, answers and errors, and the records of a heap's state.
+//! The definitions over them are in `specs/`.
 //!
-//! The paper is Click, Tene and Wolf, "The Pauseless GC Algorithm" (VEE 2005). A comment that names
-//! one of its sections tells a rule of that section; all else is ours.
+//! `docs/ALGORITHM.md` has the rules, and where each comes from.
 #![tactic(auto)]
 
 mod config;

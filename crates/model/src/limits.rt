@@ -1,5 +1,4 @@
-//! The limits of a heap: the greatest number of each thing that it may be made with. Those of a script's
-//! heap are the script language's own.
+//! The limits of a heap's configuration. The script language has limits of its own for a script's heap.
 
 /// The most words of a page.
 pub const MOST_WORDS: u32 = 32_768;
@@ -31,11 +30,11 @@ pub const MOST_FIELDS: u16 = 1023;
 /// The most objects that are ever born: 2^56.
 pub const MOST_BIRTHS: u64 = 72_057_594_037_927_936;
 
-/// The most entries of a book's history.
+/// The most entries of a history.
 pub const MOST_HISTORY: u64 = 1_000_000;
 
-/// The registers of a thread where a heap's maker doesn't say.
+/// The default number of registers of a thread.
 pub const USUAL_REGISTERS: u32 = 16;
 
-/// The globals where a heap's maker doesn't say.
+/// The default number of globals.
 pub const USUAL_GLOBALS: u32 = 64;

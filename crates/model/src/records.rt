@@ -6,26 +6,26 @@ ghost use Rattle.model.specs.Tallies.{counted, blank_tally};
 
 use refword::{Addr, Word};
 
-/// How a page is used.
+/// The state of a page.
 #[derive(Clone, Copy, Debug, PartialEq, Eq)]
 pub enum PageState {
-    /// It has no memory, and its number may be taken.
+    /// It has no memory, and its number is free to be used.
     Unused,
     /// It has a frame, and buffers are taken in it.
     Open,
     /// It has a frame, and no buffer is taken in it any more.
     Closed,
-    /// It is protected: its live objects are being copied out (the paper's Relocate phase).
+    /// It is protected, and has a frame: its live objects are being copied out.
     From,
-    /// Its objects are copied and its frame is given back; its side array stays (the paper's
-    /// Relocate phase: memory is free before the references are corrected).
+    /// It is protected: its objects are copied and its frame was released, before references to it are corrected. Its
+    /// forwarding table stays.
     Gone,
 }
 
-/// A page's record. The page of number n is the n-th record, counted from 1 (ours).
+/// A page's record. Pages count from 1; page n has the n-th record.
 #[derive(Clone, Copy, Debug, PartialEq, Eq)]
 pub struct Page {
-    /// How it is used.
+    /// Its state.
     pub state: PageState,
     /// The number of its frame, from 0.
     pub frame: Option<u32>,
@@ -33,7 +33,7 @@ pub struct Page {
     pub top: u32,
 }
 
-/// The part of a page that a thread may still fill (ours).
+/// An allocation buffer: the part of a page in which a thread may still allocate.
 #[derive(Clone, Copy, Debug, PartialEq, Eq)]
 pub struct Buffer {
     /// The page's number, from 1.
@@ -44,52 +44,49 @@ pub struct Buffer {
     pub end: u32,
 }
 
-/// Why no buffer can be taken.
+/// The error of taking a buffer.
 #[derive(Clone, Copy, Debug, PartialEq, Eq)]
 pub enum Room {
-    /// No page has room, and no frame is free.
+    /// No page has space, and no frame is free.
     NoFrames,
-    /// No page has room, and no page number is unused.
+    /// No page has space, and no page number is unused.
     NoPages,
-    /// No page has room, and memory for a fresh one was refused.
+    /// No page has space, and there is no memory for a fresh one.
     NoMemory,
 }
 
-/// Where the collector is in its cycle (the paper's phases, with their checkpoints). The paper's
-/// Remap phase is the walk of the next mark, so it has no state here.
+/// The collector's phase. Remapping has none of its own: the next mark does it.
 #[derive(Clone, Copy, Debug, PartialEq, Eq)]
 pub enum Phase {
     /// No mark runs, and no page is protected.
     Idle,
-    /// A mark has begun, and some thread hasn't crossed its checkpoint (the paper's Mark phase).
+    /// A mark has started, and some thread hasn't crossed its checkpoint.
     MarkCrossing,
-    /// A mark runs, and all threads have crossed (the paper's Mark phase).
+    /// A mark runs, and all threads have crossed.
     Scanning,
-    /// Pages are protected, and some thread hasn't crossed the checkpoint (the paper's Relocate
-    /// phase).
+    /// Pages are protected, and some thread hasn't crossed the checkpoint.
     ProtectCrossing,
-    /// Pages are protected, and all threads have crossed (the paper's Relocate phase).
+    /// Pages are protected, and all threads have crossed.
     Relocating,
 }
 
 impl Phase {
-    /// Whether a mark runs (the paper's Mark phase).
+    /// Returns whether a mark runs.
     pub fn is_marking(self) -> bool
         ensures { result ≡ is_marking self }
     {
         matches!(self, Phase::MarkCrossing | Phase::Scanning)
     }
 
-    /// Whether a checkpoint is open: some thread has still to cross it (the paper's checkpoints).
+    /// Returns whether a checkpoint is open: some thread hasn't crossed it.
     pub fn is_crossing(self) -> bool
         ensures { result ≡ is_crossing self }
     {
         matches!(self, Phase::MarkCrossing | Phase::ProtectCrossing)
     }
 
-    /// Whether the loads of a thread trap on words that aren't marked through: a mark runs, and the
-    /// thread has crossed (the paper's read barrier; that they do so before all threads have
-    /// crossed is ours).
+    /// Returns whether a thread's loads trap on references that aren't clean: a mark runs, and the thread has
+    /// crossed.
     pub fn may_nmt_trap(self, crossed: bool) -> bool
         ensures { result ≡ may_nmt_trap self crossed }
     {
@@ -100,7 +97,7 @@ impl Phase {
         }
     }
 
-    /// Whether a mark waits for threads to cross (the paper's checkpoints).
+    /// Returns whether a mark's checkpoint is open.
     pub fn is_mark_crossing(self) -> bool
         ensures { result ≡ is_mark_crossing self }
     {
@@ -108,7 +105,7 @@ impl Phase {
     }
 }
 
-/// Where a load takes its word from.
+/// The place of a load.
 #[derive(Clone, Copy, Debug, PartialEq, Eq)]
 pub enum Place {
     /// A reference field, counted from 0, of the object at an address.
@@ -122,30 +119,29 @@ pub enum Place {
     Global(u32),
 }
 
-/// A load that isn't finished (the paper's read barrier).
+/// An open read barrier: an unfinished load.
 #[derive(Clone, Copy, Debug, PartialEq, Eq)]
 pub struct Barrier {
     /// The number of the register that the load is for, from 0.
     pub target: u32,
-    /// Where the word was loaded.
+    /// The place of the load.
     pub place: Place,
-    /// The word that was loaded.
+    /// The reference that was loaded.
     pub raw: Word,
-    /// The word so far: `raw`, or what a trap made of it.
+    /// The current reference: `raw`, or its correction by a trap.
     pub now: Word,
     /// Whether the place was healed.
     pub healed: bool,
 }
 
-/// How often a thread's read barrier has done each thing. Each number stops at the greatest of 64
-/// bits, which no book reaches (ours).
+/// The barrier counters of a thread. Each stops at the greatest 64-bit number, which no recorded heap reaches.
 #[derive(Clone, Copy, Debug, PartialEq, Eq)]
 pub struct Tally {
     /// Loads that were begun, of fields and of globals.
     pub loads: u64,
-    /// GC traps: the word named a protected page, and names the copy since.
+    /// GC traps: the reference led to a protected page, and was replaced with one to the copy.
     pub gc: u64,
-    /// NMT traps: the word had still to be marked, and is marked since.
+    /// NMT traps: the running mark hadn't seen the reference, which was marked.
     pub nmt: u64,
     /// Places that were healed.
     pub healed: u64,
@@ -153,7 +149,7 @@ pub struct Tally {
     pub changed: u64,
 }
 
-/// One of the numbers of a tally.
+/// One of the barrier counters.
 #[derive(Clone, Copy, Debug, PartialEq, Eq)]
 pub enum Counter {
     /// Loads that were begun.
@@ -169,7 +165,7 @@ pub enum Counter {
 }
 
 impl Tally {
-    /// Nothing was counted so far.
+    /// Returns counters that are 0.
     pub fn blank() -> Tally
         ensures { result ≡ blank_tally }
     {
@@ -182,7 +178,7 @@ impl Tally {
         }
     }
 
-    /// Counts one more.
+    /// Increments a counter, up to the greatest 64-bit number.
     #[inline(always)]
     pub fn count(&mut self, counter: Counter)
         ensures { self.new ≡ counted counter self.old }
@@ -198,7 +194,7 @@ impl Tally {
     }
 }
 
-/// An object that a worker scans (the paper's Mark phase).
+/// A worker's scan of an object.
 #[derive(Clone, Copy, Debug, PartialEq, Eq)]
 pub struct Scan {
     /// The object's address.
@@ -207,8 +203,7 @@ pub struct Scan {
     pub next: u32,
 }
 
-/// An entry of a protected page's side array: one live object, and where it goes (the paper's
-/// Relocate phase: forwarding stands apart from the page).
+/// An entry of a protected page's forwarding table: one live object, and its new place.
 #[derive(Clone, Copy, Debug, PartialEq, Eq)]
 pub struct Forwarding {
     /// The object's offset in its page.
@@ -222,8 +217,8 @@ pub struct Forwarding {
 /// A root that all threads share.
 #[derive(Clone, Copy, Debug, PartialEq, Eq)]
 pub struct Global {
-    /// What it names.
+    /// Its reference.
     pub word: Word,
-    /// Whether the running mark has still to mark it (the paper's Mark phase).
+    /// Whether it is grey: the running mark hasn't marked it yet.
     pub todo: bool,
 }

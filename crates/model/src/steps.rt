@@ -1,4 +1,4 @@
-//! Steps of actors, their answers and their refusals.
+//! Steps of actors, their answers and their errors.
 
 ghost use Rattle.std.specs.Prelude.{◌≡◌};
 
@@ -6,7 +6,7 @@ use std::error::Error;
 use std::fmt;
 use std::marker::Model;
 
-/// Who does a step (ours). Threads and workers count from 0.
+/// Who does a step. Threads and workers count from 0.
 #[derive(Clone, Copy, Debug, PartialEq, Eq)]
 pub enum Actor {
     /// A mutator thread.
@@ -30,21 +30,21 @@ impl Model for PageList {
 }
 
 impl PageList {
-    /// The list of these pages.
+    /// Returns the list of these pages.
     pub fn new(pages: Vec<u32>) -> PageList
         ensures { result ≡ pages.items }
     {
         PageList { pages }
     }
 
-    /// The pages in order.
+    /// Returns the pages in order.
     pub fn as_slice(&self) -> &[u32]
         ensures { result.now ≡ self.now }
     {
         &self.pages
     }
 
-    /// The pages as they were handed in.
+    /// Returns the pages as the vector from which the list was made.
     pub fn into_vec(self) -> Vec<u32>
         ensures { result.items ≡ self }
     {
@@ -53,233 +53,224 @@ impl PageList {
     }
 }
 
-/// What an actor does in one hold of the heap. What the steps are is ours; a section of the paper
-/// is named where a step does its rule.
+/// An atomic action of an actor.
 ///
-/// `target`, `object`, `source`, `left`, `right` and the numbers of `IsNull`, `ClearReg` and
-/// `Scrub` are numbers of the thread's registers, from 0: `object` is the register that names the
-/// object. `field` and `index` count from 0 within the object, references and data each; `global`,
-/// `layout`, `entry` of a side array and the thread of `CrossFor` count from 0, pages from 1;
-/// offsets and sizes are in words. A number that names nothing is refused (`BadIndex`).
+/// `target`, `object`, `source`, `left`, `right` and the numbers of `IsNull`, `ClearReg` and `Scrub` are numbers of
+/// the thread's registers, from 0: `object` is the register that refers to the object. `field` and `index` count from
+/// 0 within the object, references and data each; `global`, `layout`, `entry` of a forwarding table and the thread of
+/// `CrossFor` count from 0, pages from 1; offsets and sizes are in words. A number out of range is the error
+/// `BadIndex`.
 #[derive(Debug, Drop)]
 pub enum Step {
-    /// A buffer of so many words is taken: 1 to the words of a page.
+    /// Takes an allocation buffer of this number of words: 1 to the words of a page.
     Take(u32),
-    /// The buffer is given back.
+    /// Gives the buffer back.
     GiveBack,
-    /// An object is born.
+    /// Allocates an object.
     New {
         target: u32,
         layout: u32,
     },
-    /// A reference field is loaded: a barrier opens (the paper's read barrier).
+    /// Begins to load a reference field: opens a barrier.
     Load {
         target: u32,
         object: u32,
         field: u32,
     },
-    /// A global is loaded: a barrier opens (the paper's read barrier).
+    /// Begins to load a global: opens a barrier.
     LoadGlobal {
         target: u32,
         global: u32,
     },
-    /// The word in the barrier is corrected or marked (the paper's read barrier; that the thread
-    /// copies an object that isn't copied yet is ours).
+    /// Corrects or marks the reference in the barrier. An object that isn't copied yet is copied first.
     Trap,
-    /// The place of the load gets the word in the barrier (the paper's read barrier), if it hasn't
-    /// changed (ours).
+    /// Writes the reference in the barrier to the place of the load, if the place hasn't changed.
     Heal,
-    /// The register gets the word in the barrier, which closes (the paper's read barrier).
+    /// Writes the reference in the barrier to the register, and closes the barrier.
     Finish,
-    /// A reference field gets a register's word.
+    /// Writes a register's reference to a reference field.
     Store {
         object: u32,
         field: u32,
         source: u32,
     },
-    /// A global gets a register's word.
+    /// Writes a register's reference to a global.
     StoreGlobal {
         global: u32,
         source: u32,
     },
-    /// A data word is read.
+    /// Reads a data word.
     Datum {
         object: u32,
         index: u32,
     },
-    /// A data word is written.
+    /// Writes a data word.
     SetDatum {
         object: u32,
         index: u32,
         value: u64,
     },
-    /// Two registers are compared.
+    /// Compares two registers.
     Same {
         left: u32,
         right: u32,
     },
-    /// A register is tested.
+    /// Tests whether a register is null.
     IsNull(u32),
-    /// A register gets another one's word.
+    /// Copies a register to another.
     CopyReg {
         target: u32,
         source: u32,
     },
-    /// A register becomes null.
+    /// Sets a register to null.
     ClearReg(u32),
-    /// The thread crosses the open checkpoint (the paper's checkpoints).
+    /// Crosses the open checkpoint.
     Cross,
-    /// A register that names a protected page is corrected (ours).
+    /// Corrects a register that refers to a protected page.
     Scrub(u32),
-    /// The thread blocks, and does nothing but `Unpark`.
+    /// Parks the thread, which may then do nothing but `Unpark`.
     Park,
-    /// The thread runs again.
+    /// Lets the thread run again.
     Unpark,
-    /// A mark starts (the paper's Mark phase).
+    /// Starts a mark.
     StartMark,
-    /// The worker takes an object to scan (the paper's Mark phase).
+    /// Takes a grey object to scan.
     Pick {
         page: u32,
         offset: u32,
     },
-    /// The worker scans the next field of its object, and corrects it (the paper's Mark and Remap
-    /// phases).
+    /// Marks the next reference field of the worker's object and writes it back corrected, or ends the object's scan.
     ScanField,
-    /// A global is marked, and corrected (the paper's Mark and Remap phases).
+    /// Marks a global, and writes it back corrected.
     ScanGlobal(u32),
-    /// The mark ends, and pages that were emptied become unused (ours; that a page's number is free
-    /// only after a mark has corrected all references to it is the paper's Remap phase).
+    /// Ends the mark: marked objects are live, and protected pages become unused, as no reference to them is left.
     EndMark,
-    /// Pages are protected, and it is planned where their live objects go (the paper's Relocate
-    /// phase; the plan, and that only closed pages can be protected, are ours).
+    /// Protects closed pages, and plans the places of their live objects.
     Protect(PageList),
-    /// An object of a protected page is copied (the paper's Relocate phase; that nothing is copied
-    /// before all threads have crossed is ours).
+    /// Copies an object of a protected page. All threads must have crossed.
     Copy {
         page: u32,
         entry: u32,
     },
-    /// All objects of a protected page that aren't copied yet are copied, as by `Copy` of each (the
-    /// paper's Relocate phase; that it is one step is ours).
+    /// Copies all objects of a protected page that aren't copied yet, as `Copy` of each does.
     CopyPage(u32),
-    /// A protected page gives its frame back (the paper's Relocate phase).
+    /// Releases a protected page: its frame becomes free.
     Release(u32),
-    /// A parked thread is crossed (the paper's checkpoints).
+    /// Crosses the open checkpoint for a parked thread.
     CrossFor(u32),
 }
 
-/// What an accepted step says.
+/// The answer to an accepted step.
 #[derive(Clone, Copy, Debug, PartialEq, Eq)]
 pub enum Answer {
-    /// A buffer begins there: a page's number, and an offset in words.
+    /// The place of a lent buffer: a page's number, and an offset in words.
     Lent { page: u32, offset: u32 },
     /// The object's birth number: how many were born before it.
     Birth(u64),
-    /// A barrier is open.
+    /// A barrier was opened.
     Loaded,
-    /// The word names the copy now (the paper's read barrier).
+    /// The reference was replaced with one to the copy, or the register was.
     Moved,
-    /// The word was marked (the paper's read barrier).
+    /// The reference was marked.
     Marked,
-    /// No trap was due (the paper's read barrier).
+    /// No trap was due.
     Clear,
     /// The place of the load was written.
     Healed,
-    /// The place of the load had changed, and stays.
+    /// The place of the load had changed, and wasn't written.
     Changed,
-    /// The register names no protected page.
+    /// The register didn't need a correction.
     Clean,
     /// A field was scanned.
     Scanned,
-    /// The object is scanned.
+    /// The object was scanned completely.
     Finished,
     /// It is done.
     Done,
     /// A data word.
     Datum(u64),
-    /// Whether it is so.
+    /// The result of a test.
     Truth(bool),
-    /// An object was copied to there.
+    /// The new place of the object that was copied.
     MovedTo { page: u32, offset: u32 },
     /// How many objects of a page were copied.
     CopiedPage { copied: u64 },
-    /// A mark ended: how many objects live, and how many pages became unused.
+    /// A mark ended: the numbers of live objects, and of pages that became unused.
     Ended { live: u64, retired: u64 },
-    /// How many objects go to how many pages.
+    /// Pages were protected: the numbers of objects that move, and of targets.
     Protected { objects: u64, targets: u64 },
-    /// How many frames are free now.
+    /// A page was released: the number of free frames.
     Released { free: u64 },
 }
 
-/// What a thread's trap came to: `Moved`, `Marked` or `Clear` of `Answer`, as the value of a call
-/// (the paper's read barrier).
+/// The result of a thread's trap: `Moved`, `Marked` or `Clear` of `Answer`, as the value of a call.
 #[derive(Clone, Copy, Debug, PartialEq, Eq)]
 pub enum Trap {
-    /// The word names the copy now.
+    /// The reference was replaced with one to the copy.
     Moved,
-    /// The word was marked.
+    /// The reference was marked.
     Marked,
     /// No trap was due.
     Clear,
 }
 
-/// Why a step isn't accepted (ours). A refused step changes nothing. As a text it is its name, then
-/// its numbers, each after a space: `NoFrames 1 0`.
+/// The error of a rejected step, which changes nothing. Its text is its name, then its numbers, each after a space:
+/// `NoFrames 1 0`.
 #[derive(Clone, Copy, Debug, PartialEq, Eq)]
 pub enum Refusal {
     /// There is no such actor, or it does no such step.
     NoActor,
-    /// A number in the step names nothing.
+    /// A number in the step is out of range.
     BadIndex,
     /// The thread is parked.
     Parked,
     /// The thread isn't parked.
     NotParked,
-    /// A barrier is open, or it can't go on yet: a trap is due, or its word isn't healed.
+    /// A barrier is open, or it can't go on yet: a trap is due, or its place isn't healed.
     Busy,
     /// No barrier is open.
     NotBusy,
     /// A register is null.
     Null,
-    /// A register names a protected page whose objects can't be copied yet.
+    /// A reference leads to a protected page whose objects can't be copied yet.
     Stall,
-    /// A register names a protected page.
+    /// A register refers to a protected page.
     Stale,
-    /// There is no buffer, or it is too small.
+    /// There is no buffer, or it has too few words left.
     NoRoom,
-    /// The thread has a buffer.
+    /// The thread already has a buffer.
     HasBuffer,
     /// There are fewer free frames than are needed.
     NoFrames { need: u64, free: u64 },
     /// There are fewer unused pages than are needed.
     NoPages,
-    /// The collector's phase has no such step.
+    /// The step is impossible in the collector's phase.
     Phase,
-    /// The thread has crossed already.
+    /// The thread has already crossed.
     AlreadyCrossed,
     /// This thread hasn't crossed.
     NotCrossed { thread: u32 },
-    /// Nothing there is to be scanned.
+    /// Nothing grey is there.
     NotTodo,
-    /// A worker has it.
+    /// A worker has the object, or already has another one.
     Taken,
-    /// Something is still to be scanned.
+    /// Something is still grey.
     TodoLeft,
     /// This thread's barrier is open.
     Pending { thread: u32 },
     /// This page isn't closed.
     Unripe { page: u32 },
-    /// This page has an object that isn't copied.
+    /// An object of this page isn't copied.
     Uncopied { page: u32 },
-    /// The object is copied already.
+    /// The object is already copied.
     Copied,
-    /// This page has a buffer that is lent.
+    /// A buffer of this page is lent.
     Lent { page: u32 },
     /// No more objects may be born.
     Births,
-    /// The history has as many entries as it may have.
+    /// The history is full.
     HistoryFull,
-    /// Memory was refused.
+    /// Out of memory.
     Memory,
 }
 
@@ -324,5 +315,5 @@ impl fmt::Display for Refusal {
 
 impl Error for Refusal {}
 
-/// What a step of an actor says: its answer, or why it isn't accepted.
+/// The answer to a step, or its error.
 pub type Reply = Result<Answer, Refusal>;

@@ -1,4 +1,4 @@
--- Words behind an address, on its page.
+-- Words at a distance from an address, on the address's page.
 use Rattle.std.proofs.Common.{◌≡◌, ℕ, ◌+◌, ◌*◌, ◌/◌, ◌%◌, ◌<◌, ◌∙◌, ap, arith, refl, List, Option, Some, None}
 use Rattle.std.specs.Prelude.{slice_get}
 use Rattle.std.specs.Option.{option_and_then}
@@ -14,7 +14,7 @@ same_page a k w near = ap (λ x. x / w) (parted a k w) ∙ div-mul-add (a / w) w
 pub further_on : (a k w : ℕ) → a % w + k < w → (a + k) % w ≡ a % w + k
 further_on a k w near = ap (λ x. x % w) (parted a k w) ∙ mod-mul-add (a / w) w (a % w + k) near
 
--- what is less than a page behind an address, on its page, has that page's frame
+-- an address less than a page's words after another, on its page, has that page's frame
 pub spot_behind : (s : StoreState) (a k : ℕ) → a % s.words + k < s.words
     → spot_of s (a + k) ≡ at_offset (frame_in (page_at s (a / s.words))) (a % s.words + k)
 unfolding spot_of
@@ -25,7 +25,7 @@ on_frame : (frames : List (List ℕ)) (f : Option ℕ) (k : ℕ) (ws : List ℕ)
 on_frame frames None k ws h = absurd (cc)
 on_frame frames (Some f) k ws h = rw h refl
 
--- what is less than a page behind an address, on its page, is one of its page's words
+-- a word less than a page's words after an address, on its page, is one of its page's words
 pub word_on_page : (s : StoreState) (a k : ℕ) (ws : List ℕ) → words_at s (a / s.words) ≡ Some ws
     → a % s.words + k < s.words → word_at s (a + k) ≡ slice_get ws (a % s.words + k)
 unfolding word_at words_at

@@ -1,4 +1,4 @@
--- What a mark's end does to each page in turn, it does to the store.
+-- Ending a mark for each page in turn ends it for the store.
 use Rattle.std.proofs.Common.{◌≡◌, ◌≢◌, ◌⊎◌, inl, inr, ℕ, zero, suc, ◌+◌, ◌-◌, ◌<◌, ◌≤◌, ◌&&◌, Bool, true, false, not}
 use Rattle.std.proofs.Common.{cond, List, [], ◌∷◌, map, length, Option, Some, None, set, refl, sym, ◌∙◌, ap, subst}
 use Rattle.std.proofs.Common.{arith}
@@ -48,7 +48,7 @@ map_but f g (y ∷ ys) (suc i) x v e h k =
 
 -- pages
 
--- a page that a mark's end came to stays as it is at the next
+-- ending a mark for a page twice is ending it once
 again : (lent : Bool) (p : Page) → page_after_mark lent (page_after_mark lent p) ≡ page_after_mark lent p
 again lent p = by_state p.state refl lent
   where
@@ -64,7 +64,7 @@ again lent p = by_state p.state refl lent
 state_after : (lent : Bool) (p : Page) → is_protected p.state ≡ true → (page_after_mark lent p).state ≡ Unused
 state_after lent p e = rw e refl
 
--- no page is protected that a mark's end came to
+-- a page for which a mark was ended isn't protected
 not_protected : (lent : Bool) (p : Page) → page_after_mark lent p ≡ p → is_protected p.state ≡ false
 not_protected lent p h = by_state p.state refl
   where
@@ -96,7 +96,7 @@ pages_again lent n k (p ∷ ps) (suc i) e =
     ap (pages_after_mark lent n) (change_more p ps i (page_after_mark (lent k)))
     ∙ ap (λ qs. page_after_mark (lent n) p ∷ qs) (pages_again lent (n + 1) k ps i (omega (arith, e)))
 
--- the pages of indices below i are as a mark's end leaves them
+-- a mark was ended for the pages of indexes below i
 abbrev pub AreEnded : (ℕ → Bool) → ℕ → StoreState → Type 0
 AreEnded lent i s =
     (j : ℕ) (p : Page) → j < i → slice_get s.pages j ≡ Some p → page_after_mark (lent (j + 1)) p ≡ p
@@ -129,11 +129,11 @@ page_at_number s j =
     ap state_in (page_at_record s (j + 1) (λ e. absurd (omega (arith, e))))
     ∙ ap (λ k. state_in (slice_get s.pages k)) back
 
--- an owner that gives its frame up, or keeps it
+-- an owner that loses its frame, or keeps it
 abbrev pub owner_if : (n : ℕ) → Bool → Option ℕ
 owner_if n b = cond b None (Some n)
 
--- the page of an index becomes another one, which is protected as little as before or as it was
+-- the page of an index becomes another one, which is protected only if it was before
 module _ (s : StoreState) (i : ℕ) (p : Page) (h : IsStore s) (at : slice_get s.pages i ≡ Some p) where
   owner_elsewhere : (q : Page) (t : StoreState) → t.pages ≡ set s.pages i q → (j : ℕ) → j ≢ i
       → owner_after_mark t (Some (j + 1)) ≡ owner_after_mark s (Some (j + 1))
@@ -161,7 +161,7 @@ module _ (s : StoreState) (i : ℕ) (p : Page) (h : IsStore s) (at : slice_get s
       (λ f o a. by_owner (λ o. owner_after_mark t o ≡ owner_after_mark s o) f o a refl
       (λ j x b c. owner_elsewhere (retired_page p) t e j (λ z. none-some f (sym none ∙ frame_of j f x b c z))))
 
-  -- a page gives its frame up
+  -- a page releases its frame
   owners_from : (g : ℕ) → p.frame ≡ Some g → is_protected p.state ≡ true → (t : StoreState)
       → t.pages ≡ set s.pages i (retired_page p) → t.owners ≡ set s.owners g None
       → map (owner_after_mark t) t.owners ≡ map (owner_after_mark s) s.owners
@@ -194,11 +194,11 @@ module _ (s : StoreState) (i : ℕ) (p : Page) (h : IsStore s) (at : slice_get s
           ∙ ap (λ k. is_protected (state_in (slice_get s.pages k))) (sym here)
           ∙ ap is_protected (sym (page_at_number s j)))
 
--- a mark leaves the same owners in two stores
+-- two stores have the same owners after a mark's end
 abbrev pub LeavesAlike : StoreState → StoreState → Type 0
 LeavesAlike s t = map (owner_after_mark t) t.owners ≡ map (owner_after_mark s) s.owners
 
--- what owners are after a mark is the same before and after it came to a page
+-- the owners after a mark's end are the same before and after it is done for one page
 ended_owners : (s : StoreState) (i : ℕ) (lent : Bool) → IsStore s
     → LeavesAlike s (with_mark_ended_at s i lent)
 ended_owners s i lent h = by_page (slice_get s.pages i) refl
@@ -246,7 +246,7 @@ owned_empty (o ∷ os) (ws ∷ frames) zero e =
     ∙ sym (ap (λ x. words_owned x ws ∷ frames_owned os frames) free)
 owned_empty (o ∷ os) (ws ∷ frames) (suc g) e = ap (λ fs. words_owned o ws ∷ fs) (owned_empty os frames g e)
 
--- frames stay that have words only where they have owners
+-- only frames with owners have words, so frames stay
 owned_same : (words : ℕ) (os : List (Option ℕ)) (frames : List (List ℕ)) → ((f : ℕ) (o : Option ℕ) (ws : List ℕ)
     → slice_get os f ≡ Some o → slice_get frames f ≡ Some ws → length ws ≡ owned_size words o)
     → frames_owned os frames ≡ frames
@@ -275,7 +275,7 @@ kept_owned (o ∷ os) (ws ∷ frames) zero n e =
     let owner : o ≡ Some n = same_Some _ _ e in ap (λ x. Some (words_owned x ws)) owner
 kept_owned (o ∷ os) (ws ∷ frames) (suc f) n e = kept_owned os frames f n e
 
--- a frame that a page gives up is free after the mark
+-- a frame that a page releases is free after the mark
 given_free : (s : StoreState) (i g : ℕ) (p : Page) → IsStore s → slice_get s.pages i ≡ Some p → given_up p ≡ Some g
     → slice_get (map (owner_after_mark s) s.owners) g ≡ Some None
 given_free s i g p h at e = by_test (is_protected p.state) refl e
@@ -287,7 +287,7 @@ given_free s i g p h at e = by_test (is_protected p.state) refl e
         ∙ ap Some (ap (λ x. owner_if (i + 1) (is_protected x)) (page_at_number s i ∙ ap state_in at)
         ∙ ap (owner_if (i + 1)) a)
 
--- what frames are after a mark is the same before and after it came to a page
+-- the frames after a mark's end are the same before and after it is done for one page
 ended_frames : (s : StoreState) (i : ℕ) → IsStore s
     → frames_owned (map (owner_after_mark s) s.owners)
     (with_empty s.frames (option_and_then given_up (slice_get s.pages i)))
@@ -306,7 +306,7 @@ ended_frames s i h = by_page (slice_get s.pages i) refl
     by_page None at = refl
     by_page (Some p) at = by_frame p at (given_up p) refl
 
--- a mark's end may come to a page before it comes to all
+-- a mark may be ended for one page before it is ended for all
 pub ended_step : (s : StoreState) (lent : ℕ → Bool) (i : ℕ) → IsStore s
     → store_after_mark lent (with_mark_ended_at s i (lent (i + 1))) ≡ store_after_mark lent s
 unfolding store_after_mark with_mark_ended_at
@@ -317,7 +317,7 @@ ended_step s lent i h =
     (option_and_then given_up (slice_get s.pages i)))) owners ∙ ended_frames s i h in
     λ z. record s { pages = pages z; frames = frames z; owners = owners z }
 
--- where it came to all pages, it is done
+-- a mark that was ended for each page is ended for the store
 pub ended_all : (s : StoreState) (lent : ℕ → Bool) (i : ℕ) → IsStore s → length s.pages ≤ i → AreEnded lent i s
     → store_after_mark lent s ≡ s
 unfolding store_after_mark
@@ -343,7 +343,7 @@ ended_all s lent i h k all =
             ap (state_at s) a ∙ page_at_number s j ∙ ap state_in b in
             ap (owner_if n) (ap is_protected state ∙ free)
 
--- it came to one more page
+-- it is ended for one more page
 pub ended_more : (s : StoreState) (lent : ℕ → Bool) (i : ℕ) → AreEnded lent i s
     → AreEnded lent (i + 1) (with_mark_ended_at s i (lent (i + 1)))
 unfolding with_mark_ended_at
@@ -367,7 +367,7 @@ ended_more s lent i h j p below e = by_page (slice_get s.pages i) refl
         by_place (inl b) = rw (b.0, sym b.1) (again (lent (i + 1)) q)
         by_place (inr b) = h j p (omega (arith, b.0, below)) b.1
 
--- at first it came to none
+-- at first it is ended for none
 pub ended_none : (s : StoreState) (lent : ℕ → Bool) → AreEnded lent 0 s
 ended_none s lent j p below e = absurd (omega (arith, below))
 
@@ -380,7 +380,7 @@ ended_length s i lent = by_page (slice_get s.pages i)
     by_page None = refl
     by_page (Some p) = length-set s.pages i (page_after_mark lent p)
 
--- whether a buffer is lent counts only where the page is open
+-- whether a buffer is lent matters only if the page is open
 pub ended_open : (s : StoreState) (i : ℕ) (lent : Bool)
     → with_mark_ended_at s i (is_open (state_in (slice_get s.pages i)) && lent) ≡ with_mark_ended_at s i lent
 ended_open s i lent = by_page (slice_get s.pages i) refl
@@ -405,7 +405,7 @@ ended_open s i lent = by_page (slice_get s.pages i) refl
     by_page None e = missing_at s i _ e ∙ sym (missing_at s i lent e)
     by_page (Some p) e = ap (λ o. with_mark_ended_at s i (is_open (state_in o) && lent)) e ∙ by_state p e p.state refl
 
--- so of a page that isn't open it need not be known
+-- so it need not be known for a page that isn't open
 pub ended_shut : (s : StoreState) (i : ℕ) (lent : Bool) → is_open (state_in (slice_get s.pages i)) ≡ false
     → with_mark_ended_at s i false ≡ with_mark_ended_at s i lent
 ended_shut s i lent e = ap (λ b. with_mark_ended_at s i (b && lent)) (sym e) ∙ ended_open s i lent

@@ -1,4 +1,4 @@
--- Lists that are kept beside the records: what is found in them, and what a changed record changes in them.
+-- Lists that are kept in addition to the records: what is found in them, and how a changed record changes them.
 use Rattle.std.proofs.Common.{◌≡◌, ℕ, zero, suc, ◌+◌, ◌-◌, ◌<◌, ◌&&◌, Bool, true, false, not}
 use Rattle.std.proofs.Common.{cond, List, [], ◌∷◌, map, length, set, replicate, position}
 use Rattle.std.proofs.Common.{nat_le, nat_lt, Option, Some, None, is_none, refl, ◌∙◌, ap, arith}

@@ -1,4 +1,4 @@
--- What is done to a store keeps its invariant.
+-- Changes of a store keep its invariant.
 use Rattle.std.proofs.Common.{◌≡◌, ◌≢◌, ◌⊎◌, inl, inr, ℕ, zero, ◌+◌, ◌*◌, ◌-◌, ◌<◌, ◌≤◌, true, false, ◌||◌, List, []}
 use Rattle.std.proofs.Common.{take, drop, length, length-drop, Option, Some, None, is_some, is_none, replicate}
 use Rattle.std.proofs.Common.{set, count_by, cond, position, ne_eqb, nat_lt, refl, sym, ◌∙◌, ap, arith, rules}
@@ -60,7 +60,7 @@ frame_short s f ws h e =
     by_owner None k = omega (arith, k)
     by_owner (Some n) k = omega (arith, k)
 
--- a frame gets other words, as many as before
+-- a frame gets other words of the same number
 pub frame_keeps : (s : StoreState) (f : ℕ) (old ws : List ℕ) → IsStore s → slice_get s.frames f ≡ Some old
     → length ws ≡ length old
     → IsStore (record s { frames = set s.frames f ws })
@@ -144,7 +144,7 @@ record_keeps s i p q h e frame memory le leaving =
         )
         by_place (inr k) = (j, x, b, get_set_other s.pages i j q k ∙ c, d)
 
--- the same, where it is protected if it was
+-- the same, if it is protected exactly if it was
 pub page_keeps : (s : StoreState) (i : ℕ) (p q : Page) → IsStore s → slice_get s.pages i ≡ Some p → q.frame ≡ p.frame
     → has_memory q.state ≡ has_memory p.state → is_protected q.state ≡ is_protected p.state → q.top ≤ s.words
     → IsStore (record s { pages = set s.pages i q })
@@ -236,7 +236,7 @@ open_keeps s i f p h e u g =
         let zero_before : as_number (is_protected p.state) ≡ as_number false = ap as_number m in
         omega (arith, same, zero_before, h.balanced.leaving)
 
--- the store that there is at first
+-- the first store
 pub first_is_store : (words frames pages : ℕ) → 0 < words → words ≤ MOST_WORDS → frames ≤ MOST_FRAMES
     → pages ≤ MOST_PAGES
     → IsStore (first_store words frames pages)
@@ -270,7 +270,7 @@ first_is_store words frames pages low high frames_high pages_high =
       };
     }
 
--- where a frame is free and no page with a record is unused, all pages have records
+-- if a frame is free and no page with a record is unused, all pages have records
 pub all_have_records : (s : StoreState) → IsStore s → 0 < count_by is_none s.owners
     → position (λ p. is_unused p.state) s.pages ≡ None → unused_page s.count s.pages ≡ None
 unfolding unused_page
@@ -330,13 +330,13 @@ open_has_frame s n h e = by_number (cases_eq n 0)
     by_number (inl z) = absurd (false≢true (sym (ap (λ o. is_open (state_in o)) (page_at_zero s n z)) ∙ e))
     by_number (inr z) = by_record z (page_at s n) refl
 
--- n words given out of a page that is there
+-- n words given out of a page that exists
 pub given_at : (s : StoreState) (i n : ℕ) (p : Page) → slice_get s.pages i ≡ Some p
     → give_words s i n ≡ (record s { pages = set s.pages i (record p { top = p.top + n }) }, buffer_of i p.top n)
 unfolding give_words
 given_at s i n p e = rw e refl
 
--- words changed in a frame that is there
+-- words changed in a frame that exists
 pub words_changed : (s : StoreState) (n f : ℕ) (ws : List ℕ) (change : List ℕ → List ℕ)
     → frame_in (page_at s n) ≡ Some f → slice_get s.frames f ≡ Some ws
     → with_words s n change ≡ record s { frames = set s.frames f (change ws) }
@@ -388,14 +388,14 @@ pub opened_words : (s : StoreState) (i f : ℕ) → (open_fresh s i f).words ≡
 unfolding open_fresh
 opened_words s i f = refl
 
--- where a frame is free, the lowest unused page has a record
+-- if a frame is free, the lowest unused page has a record
 pub unused_as : (s : StoreState) → IsStore s → 0 < count_by is_none s.owners → (r : Option ℕ)
     → r ≡ position (λ (p : Page). is_unused p.state) s.pages → r ≡ unused_page s.count s.pages
 unfolding unused_page
 unused_as s h free None e = sym (all_have_records s h free (sym e))
 unused_as s h free (Some i) e = rw (← e) refl
 
--- what a buffer's part is
+-- the value of a buffer's part
 pub part_there : (s : StoreState) (n f : ℕ) (ws : List ℕ) → frame_in (page_at s n) ≡ Some f
     → slice_get s.frames f ≡ Some ws → words_at s n ≡ Some ws
 unfolding words_at
@@ -408,7 +408,7 @@ pub some_is : (o : Option ℕ) (f : ℕ) → o ≡ Some f → IsSome o
 some_is None f e = absurd (cc)
 some_is (Some x) f e = search rules
 
--- the parts of the store that there is at first
+-- the parts of the first store
 pub first_inside : (words frames pages : ℕ) (ps : List Page) (fs : List (List ℕ)) (os : List (Option ℕ)) → 0 < words
     → words ≤ MOST_WORDS → frames ≤ MOST_FRAMES → pages ≤ MOST_PAGES
     → ps ≡ replicate (record_count frames pages) blank_page
@@ -421,6 +421,6 @@ first_inside words frames pages ps fs os low high frames_high pages_high p f o =
 pub first_free : (frames : ℕ) (os : List (Option ℕ)) → os ≡ replicate frames None → frames ≡ count_by is_none os
 first_free frames os e = rw e (omega (arith, count_replicate {X = Option ℕ} is_none frames None))
 
--- each frame has an owner's place
+-- each frame has an entry in the list of owners
 pub frame_of_owner : (s : StoreState) (f : ℕ) → IsStore s → f < length s.owners → f < length s.frames
 frame_of_owner s f h k = rw (← h.sized.owners) k

@@ -1,4 +1,4 @@
--- Buffers lie in open pages, whatever is done to the store.
+-- Buffers stay in open pages when a store changes.
 use Rattle.std.proofs.Common.{◌≡◌, ◌≢◌, ◌⊎◌, inl, inr, ℕ, ◌+◌, ◌-◌, ◌*◌, ◌/◌, ◌<◌, ◌≤◌, true, false}
 use Rattle.std.proofs.Common.{List}
 use Rattle.std.proofs.Common.{length, position, Option, Some, None, set, replicate, refl, sym, ◌∙◌, ap, subst}
@@ -147,7 +147,7 @@ taken_given : (s : StoreState) (n i : ℕ) → page_with_room s.words n s.pages 
 unfolding take_buffer
 taken_given s n i a = rw a refl
 
--- where no open page has room, the words are those of a fresh page
+-- if no open page has space, the words are those of a fresh page
 taken_fresh : (s : StoreState) (n : ℕ) → page_with_room s.words n s.pages ≡ None
     → take_buffer s n ≡ take_fresh s n (free_frame s.owners) (unused_page s.count s.pages)
 unfolding take_buffer
@@ -201,7 +201,7 @@ given_next : (s : StoreState) (i n : ℕ) → top_in (slice_get s.pages i) ≡ (
 unfolding give_words
 given_next s i n = refl
 
--- a buffer that begins its page was taken where the page to come begins
+-- a buffer at the start of its page was taken when a fresh page was to be opened
 pub page_begun : (s t : StoreState) (n : ℕ) (b : Buffer) → take_buffer s n ≡ Ok (t, b) → b.next ≡ 0
     → begins_page s n ≡ true
 unfolding begins_page
@@ -246,7 +246,7 @@ records_few s h = rw h.sized.pages (few (length s.frames) s.count h.sized.count)
     few : (frames count : ℕ) → count ≤ MOST_PAGES → record_count frames count ≤ MOST_PAGES
     few frames count k = grind (arith, nat_tests)
 
--- where a buffer's next object starts is an address
+-- the start of a buffer's next object is an address
 pub buffer_address : (s : StoreState) (b : Buffer) → IsStore s → LiesIn s b → b.next < b.end
     → IsAddress (b.page * s.words + b.next)
 buffer_address s b h l room =

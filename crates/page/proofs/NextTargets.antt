@@ -1,4 +1,5 @@
--- The next target: a fresh page, wholly given out, where a frame is free and a page unused. Closed pages stay closed.
+-- The next target: a fresh page, given out completely, if a frame is free and a page unused. Closed pages stay
+-- closed.
 use Rattle.std.proofs.Common.{◌≡◌, ◌≢◌, ℕ, zero, suc, ◌+◌, ◌-◌, ◌*◌, ◌<◌, ◌≤◌, Bool, true, false, List, [], ◌∷◌}
 use Rattle.std.proofs.Common.{length, set, position, count_by, is_none, cond, Option, Some, None, nat_le}
 use Rattle.std.proofs.Common.{refl, sym, ◌∙◌, ap, subst, arith}
@@ -52,7 +53,7 @@ pub record NextTarget (s : StoreState) : Type 0 where
   pub free : slice_get s.owners frame ≡ Some None
   pub is : take_target s ≡ Ok (give_words (open_fresh s index frame) index s.words)
 
--- a target opens where a frame is free and a page unused
+-- a target opens if a frame is free and a page unused
 pub next_target : (s : StoreState) → IsStore s → 0 < free_count s → 0 < unused_count s → NextTarget s
 unfolding take_target free_count unused_count free_frame unused_page
 next_target s h free unused = by_frame (free_frame s.owners) refl
@@ -88,14 +89,14 @@ next_target s h free unused = by_frame (free_frame s.owners) refl
         no e = absurd (omega (arith, e, free))
     by_frame (Some f) a = by_page f a (position (λ (p : Page). is_unused p.state) s.pages) refl
 
--- the store after page i + 1 opened on frame f, and was wholly given out
+-- the store after page i + 1 opened on frame f, and was given out completely
 abbrev pub target_store : StoreState → ℕ → ℕ → StoreState
 target_store s i f = record (open_fresh s i f) {
   pages = set (open_fresh s i f).pages i (record (fresh_page f) { top = (fresh_page f).top + s.words });
 }
 
 module _ (s : StoreState) (x : NextTarget s) where
-  -- a frame and a page less are left
+  -- one frame and one page less are left
   pub free_less : free_count (target_store s x.index x.frame) + 1 ≡ free_count s
   unfolding open_fresh free_count
   free_less = omega (arith, count_set is_none s.owners x.frame None (Some (x.index + 1)) x.free)
@@ -140,7 +141,7 @@ module _ (s : StoreState) (x : NextTarget s) where
           ap state_in (sym (ap (slice_get s.pages) k ∙ x.at)) ∙ closed in
           false≢true (sym (ap is_unused is) ∙ x.unused)
 
--- what stays of a store where a target opens, and that it is one of its pages
+-- what stays of a store when a target opens, and that it is one of its pages
 pub record OpensNext (s t : StoreState) (n : ℕ) : Type 0 where
   pub words : t.words ≡ s.words
   pub count : t.count ≡ s.count
@@ -172,7 +173,7 @@ next_opens s x h = record {
   closed = closed_stays s x;
 }
 
--- the target that a store gives opens so
+-- the target that a store opens is such a one
 pub opens_next : (s t : StoreState) (b : Buffer) → IsStore s → 0 < free_count s → 0 < unused_count s
     → take_target s ≡ Ok (t, b) → OpensNext s t b.page
 opens_next s t b h free unused is =
@@ -180,7 +181,7 @@ opens_next s t b h free unused is =
     subst (λ (z : StoreState × Buffer). OpensNext s z.0 z.1.page)
     (same_ok _ _ (sym (target_is s x) ∙ is)) (next_opens s x h)
 
--- there is room for it
+-- there is space for it
 pub never_full : (s : StoreState) (r : Room) → IsStore s → 0 < free_count s → 0 < unused_count s
     → take_target s ≡ Err r → ⊥
 never_full s r h free unused e =

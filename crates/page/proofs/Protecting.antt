@@ -39,7 +39,7 @@ others_stay (n ∷ ns) ps j h =
     others_stay ns (change_at ps (n - 1) set_from_of) j (λ i. h (suc i))
     ∙ other_there ps (n - 1) j set_from_of (h 0 n refl)
 
--- pages are protected behind others
+-- pages are protected after others
 more : (ns : List ℕ) (n : ℕ) (ps : List Page)
     → with_from_pages (ns ++ n ∷ []) ps ≡ change_at (with_from_pages ns ps) (n - 1) set_from_of
 more [] n ps = refl
@@ -64,7 +64,7 @@ taken (y ∷ xs) zero k x e = absurd (cc)
 taken (y ∷ xs) (suc i) zero x e = (omega arith, e)
 taken (y ∷ xs) (suc i) (suc k) x e = let (low, at) = taken xs i k x e in (omega (arith, low), at)
 
--- numbers of which none stands twice
+-- numbers without repeats
 apart : (ns : List ℕ) (i j m n : ℕ) → has_twice ns ≡ false → i < j → slice_get ns i ≡ Some m → slice_get ns j ≡ Some n
     → m ≢ n
 apart [] i j m n h l e f k = absurd (cc)
@@ -80,7 +80,7 @@ pub numbered : (s : StoreState) (n : ℕ) → state_at s n ≡ Closed → n ≢ 
 unfolding state_at
 numbered s n e z = absurd (let k : Unused ≡ Closed = sym (ap state_in (page_at_zero s n z)) ∙ e in cc)
 
--- the i-th page is as it was, where those before it are protected
+-- the i-th page is unchanged if only those before it are protected
 pub still_closed : (s : StoreState) (ns : List ℕ) (i n : ℕ) → Each ns (λ m. state_at s m ≡ Closed)
     → has_twice ns ≡ false → slice_get ns i ≡ Some n
     → state_at (record s { pages = with_from_pages (take i ns) s.pages }) n ≡ Closed
@@ -133,7 +133,7 @@ protected_lies s ns b closed lies =
         ∙ sym (page_at_record s n other)) ∙ closed k n e in
         true≢false (sym is_so ∙ ap is_open is)
 
--- what is read at an index that is there
+-- the value at an index that exists
 pub read_there : (ns : List ℕ) (i : ℕ) → i < length ns → slice_get ns i ≡ Some (get_or ns i 0)
 read_there ns i low = let (n, at) = get_within ns i low in at ∙ ap Some (sym (get_or_from_slice_get ns i n 0 at))
 

@@ -1,4 +1,4 @@
--- A page is protected, or gives its memory up: the store stays one.
+-- A page is protected, or releases its memory: the store's invariant stays.
 use Rattle.std.proofs.Common.{◌≡◌, ◌≢◌, ℕ, zero, suc, ◌-◌, ◌<◌, ◌≤◌, Bool, true, false, cond, List, [], ◌∷◌}
 use Rattle.std.proofs.Common.{length}
 use Rattle.std.proofs.Common.{set, count_by, is_some, Option, Some, None, refl, sym, ◌∙◌, ap, arith}
@@ -21,7 +21,7 @@ use Rattle.page.specs.Views.{left_in, mark}
 use Rattle.page.proofs.Keeping.{record_keeps}
 use Rattle.page.proofs.Retiring.{freed_keeps}
 
--- what passes one test passes another, so no more pass it
+-- if each element that passes one test passes another, no fewer pass the other
 fewer : {X : Type 0} (p q : X → Bool) (xs : List X) → Each xs (λ x. p x ≡ true → q x ≡ true)
     → count_by p xs ≤ count_by q xs
 fewer p q [] h = omega arith
@@ -69,12 +69,12 @@ release_keeps s i g p h e from frame = freed_keeps s i g p (set_gone_of p) h e f
       ap (λ x. as_number (is_protected x)) from,
     ))
 
--- a record that is replaced by what becomes of it
+-- a record that is replaced by a changed one
 pub changed_there : {X : Type 0} (xs : List X) (i : ℕ) (f : X → X) (x : X) → slice_get xs i ≡ Some x
     → set xs i (f x) ≡ change_at xs i f
 changed_there xs i f x e = sym (ap (λ o. change_found xs i o f) e)
 
--- such a page gives out no words, before and after, and is no unused one
+-- no words can be taken in a closed page before and after it is protected, and it isn't unused
 pub from_left : (words : ℕ) (p : Page) → p.state ≡ Closed → left_in words p ≡ left_in words (set_from_of p)
 from_left words p e = ap (λ x. cond (is_open x) (words - p.top) 0) e
 
@@ -87,13 +87,13 @@ gone_left words p e = ap (λ x. cond (is_open x) (words - p.top) 0) e
 pub gone_marked : (p : Page) → p.state ≡ From → mark (is_unused p.state) ≡ mark (is_unused (set_gone_of p).state)
 gone_marked p e = ap (λ x. mark (is_unused x)) e
 
--- a page that is being emptied has a frame
+-- a protected page that isn't released has a frame
 pub from_framed : (s : StoreState) (i : ℕ) (p : Page) → IsStore s → slice_get s.pages i ≡ Some p → p.state ≡ From
     → p.frame ≡ None → ⊥
 from_framed s i p h e from none =
     false≢true (sym (ap is_some none) ∙ (h.pages i p e).memory ∙ ap has_memory from)
 
--- a page that is used in another way than as an unused one has a record
+-- a page in any state but Unused has a record
 pub used_there : (s : StoreState) (n : ℕ) (x : PageState) → state_at s n ≡ x → x ≢ Unused
     → (n - 1 < length s.pages) × (state_in (slice_get s.pages (n - 1)) ≡ x) × (page_at s n ≡ slice_get s.pages (n - 1))
 unfolding state_at

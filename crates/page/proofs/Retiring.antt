@@ -92,7 +92,7 @@ retire_gone_keeps s i p h e none protected =
         ∙ ap (λ (y : Page). y.frame) (same_Some _ _ (sym e ∙ ap (slice_get s.pages) (sym z) ∙ c)) ∙ d) in
         (j, x, b, get_set_other s.pages i j (retired_page p) other ∙ c, d)
 
--- a page with a frame gives it up, and the frame is free
+-- a page releases its frame, which is free
 pub freed_keeps : (s : StoreState) (i g : ℕ) (p q : Page) → IsStore s → slice_get s.pages i ≡ Some p
     → p.frame ≡ Some g → q.frame ≡ None → has_memory q.state ≡ false → q.top ≤ s.words
     → count_by (λ x. is_protected x.state) (set s.pages i q) ≤ length s.frames
@@ -173,7 +173,7 @@ retire_from_keeps s i g p h e frame protected = freed_keeps s i g p (retired_pag
     (h.pages i p e).top
     (omega (arith, h.balanced.leaving, count_set (λ x. is_protected x.state) s.pages i p (retired_page p) e))
 
--- what the two do is what a mark's end does to the page
+-- the two have a mark's end's effect on the page
 
 pub closed_marked : (p : Page) → is_open p.state ≡ true → is_unused p.state ≡ false
 closed_marked p o = ap is_unused (open_is p.state o)
@@ -211,7 +211,7 @@ owners_few s h = rw h.sized.owners h.sized.frame_count
 pub count_few : (owners : List (Option ℕ)) → count_by is_none owners ≤ length owners
 count_few owners = omega (arith, count_owned owners)
 
--- no buffer is taken in a protected page, and none where it is unused
+-- no words can be taken in a protected or an unused page
 pub protected_left : (words : ℕ) (p : Page) → is_protected p.state ≡ true → left_in words p ≡ 0
 protected_left words p e = ap (λ b. cond b (words - p.top) 0) (closed_so p.state e)
   where
@@ -222,7 +222,7 @@ protected_left words p e = ap (λ b. cond b (words - p.top) 0) (closed_so p.stat
     closed_so From e = refl
     closed_so Gone e = refl
 
--- what is there is put there
+-- writing an element that is already there changes nothing
 pub set_same : {X : Type 0} (xs : List X) (i : ℕ) (x : X) → slice_get xs i ≡ Some x → set xs i x ≡ xs
 set_same [] i x e = refl
 set_same (y ∷ ys) zero x e = let here : y ≡ x = cc in ap (λ z. z ∷ ys) (sym here)

@@ -1,4 +1,4 @@
--- How many bits the rows of pages have to have, behind what is done to a store.
+-- How many bits the bitmaps of pages have after changes of a store.
 use Rattle.std.proofs.Common.{◌≡◌, ◌≢◌, ◌⊎◌, inl, inr, ℕ, zero, suc, ◌+◌, ◌-◌, ◌/◌, Bool, true, false, cond, List, [], ◌∷◌}
 use Rattle.std.proofs.Common.{set, map, length, Option, Some, None, refl, sym, ◌∙◌, ap, ap₂, arith}
 use Rattle.std.specs.List.{slice_get}
@@ -26,7 +26,7 @@ use Rattle.std.proofs.lemmas.List.{set-set}
 open_sized : (words : ℕ) (p : Page) → is_open p.state ≡ true → row_size words p ≡ words
 open_sized words p o = ap (λ x. cond (is_unused x) 0 words) (open_is p.state o)
 
--- an open page that gives out words has its row, and needs no other
+-- an open page that gives out words has its bitmaps, and needs no others
 pub given_rows : (s : StoreState) (i n : ℕ) (p : Page) → slice_get s.pages i ≡ Some p → is_open p.state ≡ true
     → row_sizes (give_words s i n).0 ≡ opened_sizes s.words (give_words s i n).1 (row_sizes s)
 given_rows s i n p e o =
@@ -45,7 +45,7 @@ pub opened_rows : (s : StoreState) (i f : ℕ) → row_sizes (open_fresh s i f) 
 unfolding open_fresh
 opened_rows s i f = sym (set_mapped (row_size s.words) s.pages i (fresh_page f) s.words refl)
 
--- and a fresh page gets one
+-- a fresh page gets bitmaps
 pub fresh_rows : (s : StoreState) (i f n : ℕ) (p : Page) → slice_get s.pages i ≡ Some p
     → row_sizes (give_words (open_fresh s i f) i n).0
     ≡ opened_sizes s.words (give_words (open_fresh s i f) i n).1 (row_sizes s)
@@ -63,7 +63,7 @@ fresh_rows s i f n p e =
     (ap (λ (x : StoreState × Buffer). x.1) (given_at (open_fresh s i f) i n (fresh_page f) at))
     ∙ ap (λ j. set (row_sizes s) j s.words) back)
 
--- the rows of pages need no other sizes where only words change
+-- the bitmaps of pages keep their sizes if only words change
 pub words_rows : (s : StoreState) (n : ℕ) (change : List ℕ → List ℕ) → row_sizes (with_words s n change) ≡ row_sizes s
 unfolding with_words
 words_rows s n change = refl
@@ -72,7 +72,7 @@ pub word_rows : (s : StoreState) (address v : ℕ) → row_sizes (with_word s ad
 unfolding with_word
 word_rows s address v = words_rows s (address / s.words) _
 
--- a page that becomes another one, as much used, needs the row that it has
+-- a page that becomes another one, unused exactly if it was, needs the bitmaps that it has
 pub alike_rows : (s : StoreState) (ps : List Page) (i : ℕ) (p q : Page) → slice_get s.pages i ≡ Some p
     → is_unused q.state ≡ is_unused p.state → ps ≡ set s.pages i q → map (row_size s.words) ps ≡ row_sizes s
 alike_rows s ps i p q at same e =
@@ -124,7 +124,7 @@ protected_rows words (n ∷ ns) ps h =
             by_place (inr a) =
                 ap (λ o. is_unused (state_in o)) (get_set_other ps (n - 1) (m - 1) (set_from_of p) a) ∙ k
 
--- a mark ends, and protected pages give up their rows
+-- a mark ends, and protected pages lose their bitmaps
 pub ended_rows : (words : ℕ) (lent : ℕ → Bool) (n : ℕ) (ps : List Page) (rows : List (List Bool))
     → map length rows ≡ map (row_size words) ps
     → map length (rows_after_mark ps rows) ≡ map (row_size words) (pages_after_mark lent n ps)

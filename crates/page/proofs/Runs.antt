@@ -21,7 +21,7 @@ use Rattle.page.specs.Runs.{known, source_with, with_run}
 use Rattle.page.proofs.Keeping.{frame_keeps}
 use Rattle.page.proofs.Copied.{same_set, nothing_over}
 
--- a page without words gives none
+-- no words are taken of a page without words
 
 taken_none : (n : ℕ) → take {A = ℕ} n [] ≡ []
 taken_none zero = refl
@@ -87,7 +87,7 @@ run_of_nothing s page target side ls e k none = unchanged s target
     by_page true ws = refl
     by_page false ws = laid_none from e k ws (ap (λ o. known (words_in s.frames o)) none)
 
--- where nothing can be lent, nothing is copied
+-- if the pages can't be lent, nothing is copied
 pub run_unlent : (s : StoreState) (page target : ℕ) (side : List Forwarding) (ls : List Layout) (e k : ℕ)
     → can_lend s page target ≡ false → s ≡ with_run s page target side ls e k
 unfolding with_run
@@ -102,7 +102,7 @@ run_unlent s page target side ls e k h = by_pages (and_cases _ _ h)
     by_pages (inl z) = rw (not-false (page == target) z) (unchanged s target (λ ws. ws) (λ ws. refl))
     by_pages (inr z) = by_frames (and_cases _ _ z)
 
--- two changes that do the same to a page's words
+-- two changes with the same effect on a page's words
 same_words : (s : StoreState) (n : ℕ) (f g : List ℕ → List ℕ) (ws : List ℕ) → words_at s n ≡ Some ws → f ws ≡ g ws
     → with_words s n f ≡ with_words s n g
 unfolding with_words words_at
@@ -120,7 +120,7 @@ same_words s n f g ws e same = ap (λ fs. record s { frames = fs }) (by_frame (f
     by_frame None k = refl
     by_frame (Some x) k = by_words x k (slice_get s.frames x) refl
 
--- the target's words are written, as they are lent beside those of the page
+-- the target's words are written while those of the page are read
 pub run_lent : (s : StoreState) (page target size : ℕ) (side : List Forwarding) (ls : List Layout) (e k : ℕ)
     (from to new : List ℕ) → can_lend s page target ≡ true → size ≡ s.words → words_at s page ≡ Some from
     → words_at s target ≡ Some to
@@ -135,17 +135,17 @@ run_lent s page target size side ls e k from to new h a b c d =
     rw (apart, b) (same_words s target (λ ws. overlay ws 0 new) (run s.words) to c
     (overlaid_all to new (ap length d ∙ length_all _ 0 e k to) ∙ d ∙ laid))
 
--- a page's frame is there
+-- a page's frame exists
 pub frame_there : (s : StoreState) (n f : ℕ) → IsStore s → frame_in (page_at s n) ≡ Some f → f < length s.frames
 frame_there s n f h e =
     let (i, p, a, b, c) = page_record s n f e in
     omega (arith, h.sized.owners, slice_get_within s.owners f _ (h.owning.owned i f p b c))
 
--- no page has more words than it may have
+-- no page has more words than the limit
 pub page_short : (s : StoreState) (n : ℕ) (ws : List ℕ) → IsStore s → words_at s n ≡ Some ws → length ws ≤ MOST_WORDS
 page_short s n ws h e = omega (arith, words_sized s n ws h e, h.sized.words)
 
--- other words in a page, as many as before, leave what holds of the store
+-- other words of the same number in a page keep the store's invariant
 pub words_keep : (s : StoreState) (n : ℕ) (f : List ℕ → List ℕ) → ((ws : List ℕ) → length (f ws) ≡ length ws)
     → IsStore s
     → IsStore (with_words s n f)
@@ -178,7 +178,7 @@ words_twice s n f g = ap (λ fs. record s { frames = fs }) (by_frame (frame_in (
     by_frame None = refl
     by_frame (Some i) = by_words i (slice_get s.frames i) refl
 
--- two changes that say the same of any words
+-- two changes with the same effect on any words
 pub words_alike : (s : StoreState) (n : ℕ) (f g : List ℕ → List ℕ) → ((ws : List ℕ) → f ws ≡ g ws)
     → with_words s n f ≡ with_words s n g
 unfolding with_words

@@ -1,4 +1,4 @@
--- Trees in a list: the way from the root to a leaf, and what a list's leaves are.
+-- Trees in a list: the path from the root to a leaf, and the list's leaves.
 use Rattle.std.proofs.Common.{◌≡◌, ◌≢◌, ◌⊎◌, inl, inr, ℕ, zero, suc, ◌+◌, ◌-◌, ◌*◌, ◌/◌, ◌^◌, ◌<◌, ◌≤◌}
 use Rattle.std.proofs.Common.{max, List, length, length-append, take, drop, set, replicate, ◌++◌, [], ◌∷◌}
 use Rattle.std.proofs.Common.{get_or, position, nat_le, Some, None, refl, sym, ◌∙◌, ap, subst, arith}
@@ -57,7 +57,7 @@ rises xs width (suc k) j t h p =
     let winner = t (ancestor k j / 2) p (omega (arith, ancestor_le k j)) in
     omega (arith, before, below xs (ancestor k j) winner)
 
--- a node of a level that has the least leaf of at least n below it
+-- a node of a level whose subtree has the least leaf of at least n
 pub record IsReached (xs : List ℕ) (depth n level node : ℕ) : Type 0 where
   pub low : 2 ^ level ≤ node
   pub high : node < 2 * 2 ^ level
@@ -67,7 +67,7 @@ pub record IsReached (xs : List ℕ) (depth n level node : ℕ) : Type 0 where
 twice : (k : ℕ) → 2 ^ (k + 1) ≡ 2 * 2 ^ k
 twice k = let e : k + 1 ≡ suc k = omega arith in ap (λ z. 2 ^ z) e ∙ pow-succ' 2 k
 
--- a node of a level that isn't the last stands above the leaves
+-- a node of a level that isn't the last is above the leaves
 pub inner_node : (depth level node : ℕ) → level < depth → node < 2 * 2 ^ level → node < 2 ^ depth
 inner_node depth level node deep high =
     let more : 2 ^ (level + 1) ≤ 2 ^ depth = pow-le-pow_right (omega arith) (omega arith) in
@@ -187,7 +187,7 @@ found_nowhere xs depth width count n e len le t less =
           less,
         )
 
--- the leaf that was found has the number
+-- the leaf that was found has the number's index
 pub found_first : (xs : List ℕ) (width count n leaf : ℕ) → 0 < n → length xs ≡ 2 * width → count ≤ width
     → ((i : ℕ) → width + count ≤ i → get_or xs i 0 ≡ 0) → IsFirstFrom xs width n leaf
     → Some (leaf - width) ≡ position (λ v. nat_le n v) (take count (drop width xs))
@@ -247,7 +247,7 @@ past_first [] n i h = zero_past n i
 past_first (x ∷ xs) n zero h = absurd (omega arith)
 past_first (x ∷ xs) n (suc i) h = past_first xs n i (omega arith)
 
--- zeros, copies of a number, and zeros again, as three fillings make them
+-- zeros, copies of a number, and zeros again, as three calls of `resize` make them
 pub rest_zero : (width count v i : ℕ) (xs ys zs : List ℕ) → length xs ≡ width
     → ys ≡ take (width + count) xs ++ replicate (width + count - width) v
     → zs ≡ take (2 * width) ys ++ replicate (2 * width - (width + count)) 0 → width + count ≤ i → get_or zs i 0 ≡ 0

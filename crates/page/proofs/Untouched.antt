@@ -1,4 +1,4 @@
--- What a word that is written leaves as it was.
+-- What a written word leaves as it was.
 use Rattle.std.proofs.Common.{◌≡◌, ◌≢◌, ◌⊎◌, inl, inr, ℕ, ◌/◌, ◌%◌, ◌*◌, ◌+◌, List, set, Option, Some, None, refl, sym, ◌∙◌, ap}
 use Rattle.std.specs.List.{slice_get}
 use Rattle.std.specs.Option.{option_and_then}
@@ -10,7 +10,7 @@ use Rattle.model.specs.Stores.{with_words, changed_in, changed_frame}
 use Rattle.model.proofs.Lists.{get_set_same, get_set_other}
 use Rattle.model.proofs.Memory.{own_frame}
 
--- a number is known by its page and its offset
+-- equal pages and equal offsets make equal numbers
 pub parted : (a b w : ℕ) → a / w ≡ b / w → a % w ≡ b % w → a ≡ b
 parted a b w e f = sym (div-add-mod' a w) ∙ (λ i. e i * w + f i) ∙ div-add-mod' b w
 

@@ -1,4 +1,4 @@
--- The table of usable pages' frames: what is found in it, and what a changed page changes in it.
+-- The table of usable pages' frames: what is found in it, and how a changed page changes it.
 use Rattle.std.proofs.Common.{◌≡◌, ℕ, zero, suc, ◌+◌, ◌-◌, ◌*◌, nat_le, ◌==◌, ◌/◌, ◌%◌, ◌<◌, Bool, true, false, cond, List, [], ◌∷◌, map, length, set}
 use Rattle.std.proofs.Math.ListN.{length-set}
 use Rattle.std.proofs.Common.{◌≤◌, get_or, replicate, Option, Some, None, refl, subst, sym, ap, ◌∙◌, arith}
@@ -31,7 +31,7 @@ in_records [] i = refl
 in_records (p ∷ ps) zero = refl
 in_records (p ∷ ps) (suc i) = in_records ps i
 
--- the table answers by a page's number
+-- the table is indexed by page numbers
 pub found : (s : StoreState) (n : ℕ) → flat (slice_get (usable_by_number s.pages) n) ≡ usable_frame s n
 unfolding usable_frame page_at
 found s zero = refl
@@ -72,7 +72,7 @@ usable_unprotected s n f h = by_page (page_at s n) h
     by_page None e = absurd (cc)
     by_page (Some p) e = by_state (is_protected p.state) p.frame e
 
--- a word behind an address on a usable page is one of its frame
+-- a word after an address on a usable page is one of its frame
 pub usable_spot : (s : StoreState) (a k f : ℕ) → usable_frame s (a / s.words) ≡ Some f → a % s.words + k < s.words
     → spot_of s (a + k) ≡ Some (f, a % s.words + k)
 usable_spot s a k f h near = spot_behind s a k near
@@ -98,7 +98,7 @@ pub found_some : (s : StoreState) (us : List (Option ℕ)) (n : ℕ) (x : Option
     → n < length us → x ≡ get_or us n x → x ≡ usable_frame s n
 found_some s us n x e low is = ap flat (sym (get_read us n x low is)) ∙ ap (λ xs. flat (slice_get xs n)) e ∙ found s n
 
--- the word behind an address on a usable page
+-- the word after an address on a usable page
 pub usable_word : (s : StoreState) (a k f : ℕ) → usable_frame s (a / s.words) ≡ Some f → a % s.words + k < s.words
     → word_at s (a + k) ≡ word_in s.frames (Some (f, a % s.words + k))
 unfolding word_at
@@ -132,7 +132,7 @@ on_frame s f o k low h = by_frame (slice_get s.frames f) refl h
     by_frame None e l = absurd (none_there s.frames f low e)
     by_frame (Some ws) e l = omega (arith, frame_short s f ws k e, l)
 
--- what is found on the frame of a usable page is the word behind the address
+-- the word found in the frame of a usable page is the word after the address
 pub usable_read : (s : StoreState) (a k f o : ℕ) (r : Option ℕ) → IsStore s → usable_frame s (a / s.words) ≡ Some f
     → o ≡ a % s.words → IfSome r (λ v. word_in s.frames (Some (f, o + k)) ≡ Some v)
     → IfSome r (λ v. word_at s (a + k) ≡ Some v)
@@ -165,7 +165,7 @@ usable_set s a k f v o true fs st h is low e =
     ∙ usable_written s a k f v h near
 usable_set s a k f v o false fs st h is low e = ap (λ xs. record s { frames = xs }) e
 
--- that keeps what holds of a store
+-- that keeps the store's invariant
 pub usable_set_keeps : (s : StoreState) (a v : ℕ) (done : Bool) → IsStore s → IsStore (cond done (with_word s a v) s)
 unfolding with_word
 usable_set_keeps s a v true h =
@@ -179,7 +179,7 @@ records_few f c h = by_cases (nat_le c (2 * f)) refl
     by_cases true e = h
     by_cases false e = let l : 2 * f < c = grind (arith, nat_tests, e) in omega (arith, l, h)
 
--- what is on a usable page is an address
+-- a number on a usable page is an address
 pub usable_address : (s : StoreState) (a f : ℕ) → IsStore s → usable_frame s (a / s.words) ≡ Some f → IsAddress a
 usable_address s a f st h =
     let n = a / s.words in
@@ -221,7 +221,7 @@ usable_there us pages i e h = omega (arith, ap length e, length_mapped usable_in
 pub usable_all : (us : List (Option ℕ)) (pages : List Page) → us ≡ usable_by_number pages → length us ≡ length pages + 1
 usable_all us pages e = omega (arith, ap length e, length_mapped usable_in pages)
 
--- of unused pages none is usable
+-- no unused page is usable
 pub usable_first : (n : ℕ) → replicate (n + 1) None ≡ usable_by_number (replicate n blank_page)
 usable_first n = let e : n + 1 ≡ suc n = omega arith in
     ap (λ k. replicate k None) e ∙ ap (λ xs. None ∷ xs) (copies_mapped usable_in n blank_page)

@@ -5,11 +5,11 @@ use Rattle.model.specs.Stores.{StoreState, is_protected, page_after_mark, with_e
 use Rattle.model.specs.States.{change_at}
 use Rattle.model.specs.Moves.{with_free}
 
--- the frame that a page gives up when a mark ends
+-- the frame that a page releases when a mark ends
 abbrev pub given_up : Page → Option ℕ
 given_up p = if is_protected p.state then p.frame else None
 
--- the store after the end of a mark came to the page of an index alone
+-- the store after a mark was ended for the page of an index alone
 unfoldable pub with_mark_ended_at : StoreState → ℕ → Bool → StoreState
 with_mark_ended_at s i lent = record s {
   pages = change_at s.pages i (page_after_mark lent);

@@ -1,4 +1,4 @@
--- How the number of words of a page is kept.
+-- The number of words of a page, as a shift and a mask.
 use Rattle.std.specs.Prelude.{◌≡◌, ◌≤◌, ◌-◌, ◌^◌, ℕ}
 use Rattle.page.specs.declared.size.PageSize.TheInside.{Inside}
 

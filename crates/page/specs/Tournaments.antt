@@ -5,11 +5,11 @@ use Rattle.std.specs.Prelude.{◌≡◌, ◌≢◌, ℕ, ◌+◌, ◌*◌, ◌<�
 abbrev pub IsWinner : List ℕ → ℕ → Type 0
 IsWinner nodes i = slice_index nodes i ≡ max (slice_index nodes (2 * i)) (slice_index nodes (2 * i + 1))
 
--- each node above the leaves, which are at width and from there on, has the greater number
+-- each node above the leaves, which begin at index width, has the greater number
 abbrev pub IsTree : List ℕ → ℕ → Type 0
 IsTree nodes width = (i : ℕ) → 0 < i → i < width → IsWinner nodes i
 
--- the same, of each node but one
+-- the same for each node but one
 abbrev pub IsTreeBut : List ℕ → ℕ → ℕ → Type 0
 IsTreeBut nodes width but = (i : ℕ) → 0 < i → i < width → i ≢ but → IsWinner nodes i
 

@@ -12,6 +12,6 @@ usable_in p = if is_protected p.state then None else p.frame
 unfoldable pub usable_frame : StoreState → ℕ → Option ℕ
 usable_frame s n = option_and_then usable_in (page_at s n)
 
--- the same by page number, from 0, of pages that count from 1
+-- the same by page number, from 0, of a list of pages that begins at number 1
 abbrev pub usable_by_number : List Page → List (Option ℕ)
 usable_by_number pages = None ∷ map usable_in pages

@@ -9,11 +9,11 @@ use Rattle.page.specs.Usable.{usable_by_number}
 use Rattle.page.specs.declared.index.Tournament.TheInside as index
 use Rattle.page.specs.declared.store.Store.TheInside.{Inside}
 
--- the numbers of a tree's leaves, as far as they are in use
+-- the numbers of a tree's leaves that are in use
 abbrev pub numbers_of : index.Inside → List ℕ
 numbers_of t = take t.count (drop t.width t.nodes.items)
 
--- the tree has as many levels as it says, and leaves that aren't in use are 0
+-- the tree has a level for each doubling of its width, and its unused leaves are 0
 pub record IsTournament (t : index.Inside) : Type 0 where
   pub width : t.width ≡ 2 ^ t.depth
   pub range : t.width ≤ 2 ^ 21
@@ -22,15 +22,15 @@ pub record IsTournament (t : index.Inside) : Type 0 where
   pub tree : IsTree t.nodes.items t.width
   pub rest : (i : ℕ) → t.width + t.count ≤ i → slice_index t.nodes.items i ≡ 0
 
--- the words that a page can still give out: none where it isn't open
+-- how many words can still be taken in a page: none if it isn't open
 abbrev pub left_in : ℕ → Page → ℕ
 left_in words p = if is_open p.state then words - p.top else 0
 
--- 1 where something holds, and 0 where it doesn't
+-- 1 for true, and 0 for false
 abbrev pub mark : Bool → ℕ
 mark b = if b then 1 else 0
 
--- its records as plain data; the number of free frames and the indexes aren't in it
+-- the records as plain data, without the number of free frames and the indexes
 abbrev pub store_of : Inside → StoreState
 store_of s = record {
   words = s.words;
@@ -40,7 +40,8 @@ store_of s = record {
   owners = s.owners.items;
 }
 
--- the store is one, and the number of its free frames, three indexes and usable pages' frames are kept beside it
+-- the store's invariant holds, and the number of free frames, three indexes and the usable pages' frames match the
+-- records
 pub record IsStoreInside (s : Inside) : Type 0 where
   pub size : s.size ≡ s.words
   pub store : IsStore (store_of s)

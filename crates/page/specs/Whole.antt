@@ -1,4 +1,4 @@
--- What registers name, and what these objects' references name, has its place: on a page, and in the tables.
+-- Objects that registers refer to, and addresses that these objects refer to, have places in pages and tables.
 use Rattle.std.specs.Prelude.{◌≡◌, ◌≤◌, ◌+◌, ◌/◌, ◌%◌, ◌^◌, ℕ, List, length, Some, Ok, IfSome, slice_get}
 use Rattle.layout.specs.declared.shape.Layout.{Layout}
 use Rattle.layout.specs.Objects.{layout_of, size_of}
@@ -7,8 +7,8 @@ use Rattle.model.specs.Registers.{register_of, usable}
 use Rattle.model.specs.States.{HeapState}
 use Rattle.model.specs.Stores.{StoreState, word_at, words_at}
 
--- the object at an address lies whole on a page that has memory: its header has the number of one of these layouts, and
--- it ends within the page
+-- the object at an address lies completely on a page that has memory: its header has one of these layouts' numbers,
+-- and it ends within the page
 pub record IsWhole (s : StoreState) (ls : List Layout) (a : ℕ) : Type 0 where
   pub words : List ℕ
   pub header : ℕ
@@ -22,8 +22,8 @@ pub record IsWhole (s : StoreState) (ls : List Layout) (a : ℕ) : Type 0 where
 abbrev pub IsRecorded : StoreState → ℕ → Type 0
 IsRecorded s a = a / s.words ≤ length s.pages
 
--- the object that a register names lies so, where the register may be used; and what a register names is on a page that
--- has a record, as is what a reference of such an object names
+-- the object that a register refers to lies completely on its page, if the register may be used; the address in a
+-- register is on a page that has a record, as is an address in a reference of such an object
 pub record AreWhole (h : HeapState) : Type 0 where
   pub whole : (t r a : ℕ) → usable h t r ≡ Ok a → IsWhole h.store h.config.layouts a
   pub registers : (t r : ℕ) → IfSome (register_of h t r) (λ v. IsRecorded h.store v.0)

@@ -4,7 +4,7 @@ ghost use Rattle.std.specs.Prelude.{◌≡◌, replicate, IfOk};
 
 use std::alloc::{AllocError, Global};
 
-/// A list of so many copies of an item. Fails only by memory.
+/// Returns a list of `count` copies of an item. Fails only if out of memory.
 pub fn many<T: Copy>(alloc: Global, count: u32, item: T) -> Result<Vec<T, Global>, AllocError>
     ensures { IfOk result (λ v. v.items ≡ replicate count item) }
 {

@@ -13,7 +13,7 @@ use std_alloc::vec::run_mut;
 #[derive(Drop)]
 pub struct Frame {
     words: Vec<u64, Global>,
-    /// Whether one may have been written since all were 0.
+    /// Whether a word may have been written since all were 0.
     written: bool,
 }
 
@@ -28,7 +28,7 @@ impl Model for Frame {
 }
 
 impl Frame {
-    /// A frame of so many words, all 0. Fails only by memory.
+    /// Returns a frame of a number of words, all 0. Fails only if out of memory.
     pub fn new(alloc: Global, words: u32) -> Result<Frame, AllocError>
         ensures { IfOk result (λ f. f ≡ replicate words 0) }
     {
@@ -38,7 +38,7 @@ impl Frame {
         })
     }
 
-    /// A frame of no words. It takes no memory.
+    /// Returns a frame of no words. It takes no memory.
     pub fn empty(alloc: Global) -> Frame
         ensures { result ≡ [] }
     {
@@ -48,14 +48,14 @@ impl Frame {
         }
     }
 
-    /// The word at an offset, or `None` past the end.
+    /// Returns the word at an offset, or `None` past the end.
     pub fn get(&self, offset: usize) -> Option<u64>
         ensures { result ≡ slice_get self.now offset }
     {
         self.words.get(offset).copied()
     }
 
-    /// Writes the word at an offset, if the frame goes that far.
+    /// Writes the word at an offset, if the frame has such a word.
     pub fn set(&mut self, offset: usize, value: u64)
         ensures { self.new ≡ slice_set self.old offset value }
     {
@@ -65,7 +65,7 @@ impl Frame {
         }
     }
 
-    /// Writes the word at an offset, if the frame goes that far. Returns whether it does.
+    /// Writes the word at an offset, if the frame has such a word. Returns whether it does.
     #[inline(always)]
     pub fn put(&mut self, offset: usize, value: u64) -> bool
         ensures done { result ≡ nat_lt offset (length self.old) }
@@ -79,7 +79,7 @@ impl Frame {
         true
     }
 
-    /// Makes all words zero. Where none was written since they were, that costs nothing.
+    /// Sets all words to 0. It costs nothing if no word was written since they were.
     pub fn clear(&mut self)
         ensures { self.new ≡ replicate (length self.old) 0 }
     {
@@ -89,14 +89,14 @@ impl Frame {
         }
     }
 
-    /// All words.
+    /// Returns all words.
     pub fn words(&self) -> &[u64]
         ensures { result.now ≡ self.now }
     {
         &self.words
     }
 
-    /// Lends all words to be written.
+    /// Lends all words for writing.
     pub fn words_mut(&mut self) -> &mut [u64]
         ensures value { result.now ≡ self.old }
         ensures* after { sem 𝓛 (LendsRun self.entry 0 result) }
@@ -106,7 +106,7 @@ impl Frame {
         run_mut(&mut self.words, 0, end)
     }
 
-    /// Lends the words from one offset up to another, which must not go past the end.
+    /// Lends the words from one offset up to another, which must not be past the end, for writing.
     pub fn run_mut(&mut self, start: usize, end: usize) -> &mut [u64]
         requires order { start ≤ end }
         requires within { end ≤ length self.old }

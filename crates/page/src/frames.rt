@@ -1,4 +1,4 @@
-//! All frames of a store, of which two can be lent at once.
+//! All frames of a store, of which two can be borrowed at once.
 
 ghost use Rattle.std.specs.Prelude.{◌≡◌, ◌≢◌, ◌≤◌, ◌<◌, length, slice_get, slice_set, replicate, IfOk, IfSome, Some};
 ghost use Rattle.std.specs.Prelude.{if◌then◌else◌, true, []};
@@ -12,20 +12,20 @@ use crate::frame::Frame;
 use std::alloc::{AllocError, Global};
 use std::marker::Model;
 
-/// The frames, by number from 0; a free one has no words. One of them may be held aside, so that it is
-/// read while another is written: this takes no time and no memory, and shows in no contract. It comes
-/// back to its place when the next frame is lent. Until then an empty frame stands there, so who looks
-/// for a word asks whether a frame is aside only where there is none.
+/// The frames, by number from 0; a free one has no words. One frame may be set aside, so that it is read while
+/// another is written: this takes no time and no memory, and no contract sees it. It is put back when the next frame
+/// is lent. Until then its place has an empty frame; a look-up asks whether a frame is set aside only if it finds no
+/// word.
 ///
-/// The memory of a frame that became free is kept for the next one that is used, and shows in no
-/// contract either, until `trim` gives it back.
+/// The memory of a frame that became free is kept for the next frame that is used, until `trim` frees it. No contract
+/// sees this either.
 #[derive(Drop)]
 pub struct Frames {
     held: Frame,
-    /// The number of the frame that is held; none, where there is no such number.
+    /// The number of the frame that is set aside, or a number that no frame has if none is.
     held_at: usize,
     frames: Vec<Frame, Global>,
-    /// Memory of frames that became free.
+    /// Cleared memory of frames that became free, or that were prepared.
     kept: Vec<Frame, Global>,
 }
 
@@ -40,7 +40,7 @@ impl Model for Frames {
     ghost invariant = { λ s. left_in s.frames.items s.held_at s.held ≡ [] };
 }
 
-/// So many frames without words. Fails only by memory.
+/// Returns `count` frames without words. Fails only if out of memory.
 fn empty_frames(alloc: Global, count: u32) -> Result<Vec<Frame, Global>, AllocError>
     ensures { IfOk result (λ v. v.items ≡ replicate count []) }
 {
@@ -51,7 +51,7 @@ fn empty_frames(alloc: Global, count: u32) -> Result<Vec<Frame, Global>, AllocEr
     Ok(frames)
 }
 
-/// The frame that is held aside comes back to its place.
+/// Puts the frame that is set aside back in its place.
 fn put_back(held: &mut Frame, frames: &mut Vec<Frame, Global>, at: usize)
     ensures frames { frames.new.items ≡ slice_set frames.old.items at held.old }
     ensures left { held.new ≡ left_in frames.old.items at held.old }
@@ -61,7 +61,7 @@ fn put_back(held: &mut Frame, frames: &mut Vec<Frame, Global>, at: usize)
     }
 }
 
-/// A frame is held aside.
+/// Sets a frame aside.
 fn take_out(held: &mut Frame, frames: &mut Vec<Frame, Global>, at: usize)
     requires { at < length frames.old.items }
     ensures held { slice_get frames.old.items at ≡ Some held.new }
@@ -71,7 +71,7 @@ fn take_out(held: &mut Frame, frames: &mut Vec<Frame, Global>, at: usize)
 }
 
 impl Frames {
-    /// So many frames without words. Fails only by memory.
+    /// Returns `count` frames without words. Fails only if out of memory.
     pub(crate) fn new(alloc: Global, count: u32) -> Result<Frames, AllocError>
         ensures { IfOk result (λ f. f ≡ replicate count []) }
     {
@@ -84,14 +84,14 @@ impl Frames {
         })
     }
 
-    /// How many there are.
+    /// Returns the number of frames.
     pub fn len(&self) -> usize
         ensures { result ≡ length self.now }
     {
         self.frames.len()
     }
 
-    /// A frame by its number, if it is there.
+    /// Returns a frame by its number, if it exists.
     #[inline(always)]
     pub fn get(&self, number: usize) -> Option<&Frame>
         ensures { option_copied result ≡ slice_get self.now number }
@@ -102,7 +102,7 @@ impl Frames {
         self.frames.get(number)
     }
 
-    /// The word at an offset of a frame, if it is there.
+    /// Returns the word at an offset of a frame, if it exists.
     #[inline(always)]
     pub(crate) fn word(&self, number: usize, offset: usize) -> Option<u64>
         ensures { result ≡ word_in self.now (Some (number, offset)) }
@@ -117,7 +117,7 @@ impl Frames {
         }
     }
 
-    /// The words of a frame that there is, if the frame isn't aside and has any.
+    /// Returns the words of a frame that exists, unless it is set aside or has none.
     #[inline(always)]
     pub(crate) fn words_at_once(&self, number: usize) -> Option<&[u64]>
         requires { number < length self.now }
@@ -130,7 +130,7 @@ impl Frames {
         Some(words)
     }
 
-    /// The word at an offset of a frame that there is, if the frame isn't aside and goes so far.
+    /// Returns the word at an offset of a frame that exists, unless the frame is set aside or has no such word.
     #[inline(always)]
     pub(crate) fn word_at_once(&self, number: usize, offset: usize) -> Option<u64>
         requires { number < length self.now }
@@ -139,8 +139,8 @@ impl Frames {
         self.frames[number].get(offset)
     }
 
-    /// Writes the word at an offset of a frame that there is, if the frame isn't aside and goes so far.
-    /// Returns whether it did.
+    /// Writes the word at an offset of a frame that exists, unless the frame is set aside or has no such word.
+    /// Returns whether it was written.
     #[inline(always)]
     pub(crate) fn set_at_once(&mut self, number: usize, offset: usize, value: u64) -> bool
         requires { number < length self.old }
@@ -152,7 +152,7 @@ impl Frames {
         frame.put(offset, value)
     }
 
-    /// The words of a frame.
+    /// Returns the words of a frame.
     pub fn words(&self, number: usize) -> &[u64]
         requires { number < length self.now }
         ensures { slice_get self.now number ≡ Some result.now }
@@ -160,8 +160,8 @@ impl Frames {
         self.get(number).unwrap().words()
     }
 
-    /// Memory for a frame of so many words, all 0: what was kept, else new memory. Fails only by
-    /// memory.
+    /// Returns memory for a frame of a number of words, all 0: kept memory, which is clear, else new memory. Fails
+    /// only if out of memory.
     pub(crate) fn blank(&mut self, words: u32) -> Result<Frame, AllocError>
         ensures value { IfOk result (λ f. f ≡ replicate words 0) }
         ensures stays { self.new ≡ self.old }
@@ -176,19 +176,29 @@ impl Frames {
         Frame::new(*self.frames.allocator(), words)
     }
 
-    /// How many frames' memory is kept.
+    /// Allocates and clears memory for one more frame of a number of words, and keeps it. Fails only if out of
+    /// memory.
+    pub(crate) fn prepare(&mut self, words: u32) -> Result<(), AllocError>
+        ensures { self.new ≡ self.old }
+    {
+        let alloc = *self.frames.allocator();
+        self.kept.push(Frame::new(alloc, words)?)?;
+        Ok(())
+    }
+
+    /// Returns how many frames' memory is kept.
     pub(crate) fn kept(&self) -> usize {
         self.kept.len()
     }
 
-    /// Gives kept memory back, but for that of so many frames.
+    /// Frees kept memory, except that of up to `most` frames.
     pub(crate) fn trim(&mut self, most: usize)
         ensures { self.new ≡ self.old }
     {
         self.kept.truncate(most);
     }
 
-    /// Puts a frame in the place of another, which it gives.
+    /// Puts a frame in the place of another, which it returns.
     fn exchange(&mut self, number: usize, frame: Frame) -> Frame
         requires { number < length self.old }
         ensures { self.new ≡ slice_set self.old number frame }
@@ -201,7 +211,7 @@ impl Frames {
         other
     }
 
-    /// A frame gets its memory.
+    /// Gives a frame its memory.
     pub(crate) fn place(&mut self, number: usize, frame: Frame)
         requires { number < length self.old }
         ensures { self.new ≡ slice_set self.old number frame }
@@ -209,17 +219,19 @@ impl Frames {
         let _ = self.exchange(number, frame);
     }
 
-    /// A frame has no words any more. Its memory is kept; where there is no memory to note that, it is given back.
+    /// Takes a frame's memory away: it has no words then. The memory is cleared and kept, or freed if out of memory
+    /// for the list of kept frames.
     pub(crate) fn empty(&mut self, number: usize)
         requires { number < length self.old }
         ensures { self.new ≡ slice_set self.old number [] }
     {
         let none = Frame::empty(*self.frames.allocator());
-        let frame = self.exchange(number, none);
-        let _ = self.kept.push(frame);
+        let mut old = self.exchange(number, none);
+        old.clear();
+        let _ = self.kept.push(old);
     }
 
-    /// Lends a frame to be written.
+    /// Lends a frame for writing.
     #[inline(always)]
     pub(crate) fn frame_mut(&mut self, number: usize) -> &mut Frame
         requires { number < length self.old }
@@ -232,7 +244,7 @@ impl Frames {
         &mut self.frames[number]
     }
 
-    /// Lends the words of one frame to be read, and those of another to be written.
+    /// Lends the words of one frame for reading, and those of another for writing.
     pub(crate) fn lend(&mut self, from: usize, to: usize) -> (&[u64], &mut [u64])
         requires apart { from ≢ to }
         requires from_there { from < length self.old }

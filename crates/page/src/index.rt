@@ -1,4 +1,4 @@
-//! Where the first number of a list stands that is great enough.
+//! Finds the first number of a list that is at least some size.
 
 ghost use Rattle.std.specs.Prelude.{◌≡◌, ◌<◌, ◌≤◌, ◌*◌, ◌^◌, ◌+◌, ◌/◌, length, slice_set, slice_index, replicate, drop};
 ghost use Rattle.std.specs.Prelude.{position, nat_le, IfOk};
@@ -8,11 +8,11 @@ ghost use Rattle.page.specs.Tournaments.{IsTree, IsTreeBut, IsFirstFrom};
 use std::alloc::{AllocError, Global};
 use std::marker::Model;
 
-/// A list of at most 1,048,575 numbers that finds the first number of at least some size in as many
-/// steps as the list's length has binary digits, and takes another number in as many.
+/// A list of up to 1,048,575 numbers. Finding the first number of at least some size, and replacing a number, take
+/// one step for each binary digit of the list's length.
 ///
-/// The numbers are the leaves of a tree, whose other nodes have the greater of the two numbers
-/// below them. The nodes below node `n` are `2 * n` and `2 * n + 1`, and node 1 is the root.
+/// The numbers are the leaves of a binary tree, in which each other node has the greater of the two numbers below it.
+/// The nodes below node `n` are `2 * n` and `2 * n + 1`, and node 1 is the root.
 #[derive(Drop)]
 pub struct Tournament {
     count: usize,
@@ -33,7 +33,7 @@ impl Model for Tournament {
     ghost invariant = { IsTournament };
 }
 
-/// How deep a tree of so many leaves is, and how many leaves it then has room for.
+/// Returns the depth of a tree for a number of leaves, and how many leaves it has space for.
 fn size_for(count: u32) -> (u32, usize)
     requires { count ≤ MOST_PAGES }
     ensures width { result.1 ≡ 2 ^ result.0 }
@@ -49,7 +49,7 @@ fn size_for(count: u32) -> (u32, usize)
     (depth, width)
 }
 
-/// Gives each node above the leaves the greater of the two numbers below it.
+/// Sets each node above the leaves to the greater of the two numbers below it.
 fn link(nodes: &mut [u32], width: usize)
     requires { length nodes.old ≡ 2 * width }
     ensures tree { IsTree nodes.new width }
@@ -63,8 +63,7 @@ fn link(nodes: &mut [u32], width: usize)
     }
 }
 
-/// Gives the nodes above a leaf the greater of the two numbers below them, where the leaf alone
-/// has changed.
+/// Sets each node above a leaf to the greater of the two numbers below it. Only the leaf may have changed.
 fn settle(nodes: &mut [u32], width: usize, leaf: usize)
     requires sized { length nodes.old ≡ 2 * width }
     requires there { leaf < length nodes.old }
@@ -80,7 +79,7 @@ fn settle(nodes: &mut [u32], width: usize, leaf: usize)
     }
 }
 
-/// The first leaf of at least `n`, where the root is.
+/// Returns the first leaf of at least `n`. The root must be at least `n`.
 fn descend(nodes: &[u32], depth: u32, n: u32) -> usize
     requires sized { length nodes.now ≡ 2 * 2 ^ depth }
     requires tree { IsTree nodes.now (2 ^ depth) }
@@ -98,7 +97,7 @@ fn descend(nodes: &[u32], depth: u32, n: u32) -> usize
 }
 
 impl Tournament {
-    /// A list of so many copies of one number: at most 1,048,575. Fails only by memory.
+    /// Returns a list of `count` copies of a number: at most 1,048,575. Fails only if out of memory.
     pub fn new(alloc: Global, count: u32, value: u32) -> Result<Tournament, AllocError>
         requires { count ≤ MOST_PAGES }
         ensures { IfOk result (λ t. t ≡ replicate count value) }
@@ -128,7 +127,7 @@ impl Tournament {
         settle(&mut self.nodes, self.width, leaf);
     }
 
-    /// The index of the first number that is at least `n`, which must be above 0.
+    /// Returns the index of the first number that is at least `n`, which must be above 0.
     pub fn first_at_least(&self, n: u32) -> Option<usize>
         requires { 0 < n }
         ensures { result ≡ position (λ v. nat_le n v) self.now }

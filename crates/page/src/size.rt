@@ -1,11 +1,11 @@
-//! How many words a page has. All of it is ours.
+//! How many words a page has.
 
 ghost use Rattle.std.specs.Prelude.{◌≡◌, ◌/◌, ◌%◌, true};
 ghost use Rattle.model.specs.Configs.{is_page_size};
 
 use std::marker::Model;
 
-/// The words of a page, a power of two, as its exponent and a mask: so an address is parted into page and
+/// The number of words of a page, a power of two, as its exponent and a mask: an address is divided into page and
 /// offset by a shift and a mask, without a division. A contract sees the number of words.
 #[derive(Debug, Drop)]
 pub struct PageSize {
@@ -26,7 +26,7 @@ impl Model for PageSize {
 }
 
 impl PageSize {
-    /// The size of so many words: 16 to 32,768, a power of two.
+    /// Returns the size of a number of words: 16 to 32,768, a power of two.
     pub fn of(words: u32) -> PageSize
         requires { is_page_size words ≡ true }
         ensures { result ≡ words }
@@ -51,14 +51,14 @@ impl PageSize {
         }
     }
 
-    /// The number of the page that an address is in.
+    /// Returns the number of the page that an address is in.
     pub fn page_of(&self, address: u64) -> u64
         ensures { result ≡ address / self.now }
     {
         address >> self.shift
     }
 
-    /// The offset of an address in its page.
+    /// Returns the offset of an address in its page, in words.
     pub fn offset_of(&self, address: u64) -> u64
         ensures { result ≡ address % self.now }
     {

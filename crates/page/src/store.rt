@@ -27,14 +27,14 @@ use std::marker::Model;
 
 /// The pages and frames of a heap.
 ///
-/// Each open, closed or protected page owns one frame, no other page owns any, and each frame
-/// has one owner or is free: this is the invariant of the type. Pages have records only as far
-/// as they can ever be in use at once, which is twice the number of frames; the others are unused.
+/// Each open, closed or From page owns one frame, no other page owns any, and each frame has one owner or is free:
+/// this is the invariant of the type. Only as many pages as can ever be in use at once, which is twice the number of
+/// frames, have records; the others are unused.
 ///
-/// Beside them it keeps three indexes, which hold the same as pages and owners do: the words left
-/// of each open page, 1 for each unused page and 1 for each free frame, and 0 for all others. And by
-/// page number, from 0, it keeps the frame of each page that has memory and isn't protected, so that
-/// one look answers what a read or write of an object asks of its page.
+/// In addition it keeps three indexes, which agree with pages and owners: how many words can still be taken in each
+/// open page, 1 for each unused page, and 1 for each free frame; all other entries are 0. By page number, from 0, it
+/// keeps the frame of each page that has memory and isn't protected, so that a read or write of an object needs one
+/// look-up.
 #[derive(Drop)]
 pub struct Store {
     words: u32,
@@ -62,8 +62,8 @@ impl Model for Store {
     ghost invariant = { IsStoreInside };
 }
 
-/// How many pages of a store have records, of so many frames and page numbers: no more are ever
-/// in use at once. There are at most 1,048,575 frames.
+/// Returns how many pages of a store have records, by its numbers of frames and of page numbers: no more are ever in
+/// use at once. There are at most 1,048,575 frames.
 pub fn record_count(frames: u32, pages: u32) -> u32
     requires { frames ≤ MOST_FRAMES }
     ensures value { result ≡ record_count frames pages }
@@ -77,9 +77,9 @@ pub fn record_count(frames: u32, pages: u32) -> u32
 }
 
 impl Store {
-    /// A store of so many frames and page numbers: all pages unused, all frames free, which have memory
-    /// only when they are used. A page has 16 to 32,768 words, a power of two, and there are at most
-    /// 1,048,575 frames and as many pages. Fails only by memory.
+    /// Returns a store of a number of frames and of page numbers: all pages are unused, and all frames are free,
+    /// which have memory only when they are used. A page has 16 to 32,768 words, a power of two, and there are at
+    /// most 1,048,575 frames and as many pages. Fails only if out of memory.
     #[tactic(auto, unfolding(model::specs::Stores::first_store))]
     pub fn new(alloc: Global, words: u32, frames: u32, pages: u32) -> Result<Store, AllocError>
         requires page_size { is_page_size words ≡ true }
@@ -110,14 +110,14 @@ impl Store {
         })
     }
 
-    /// What holds of every store: each page's memory is one frame, of which it is the one owner.
+    /// Proves the invariant of every store: the memory of each page is one frame, whose only owner it is.
     pub fn law(&self)
         ensures { IsStore self.now }
     {
         let _ = &self.words;
     }
 
-    /// The words of a page: 1 to 32,768.
+    /// Returns the number of words of a page: 16 to 32,768.
     pub fn page_words(&self) -> u32
         ensures value { result ≡ self.now.words }
         ensures positive { 0 < result }
@@ -126,7 +126,7 @@ impl Store {
         self.words
     }
 
-    /// The number of page numbers: pages count from 1 to it. At most 1,048,575.
+    /// Returns the number of page numbers, which count from 1: at most 1,048,575.
     pub fn page_count(&self) -> u32
         ensures value { result ≡ self.now.count }
         ensures range { result ≤ MOST_PAGES }
@@ -134,49 +134,50 @@ impl Store {
         self.count
     }
 
-    /// The records of the pages from number 1 on; pages beyond them are unused.
+    /// Returns the records of the pages from number 1 on; pages beyond them are unused.
     pub fn pages(&self) -> &[Page]
         ensures { result.now ≡ self.now.pages }
     {
         &self.pages
     }
 
-    /// The number of frames, used and free: at most 1,048,575.
+    /// Returns the number of frames, used and free: at most 1,048,575.
     pub fn frame_count(&self) -> usize
         ensures { result ≡ length self.now.frames }
     {
         self.frames().len()
     }
 
-    /// The frames, by number from 0: at most 1,048,575. Each has the words of a page, or is free and has none.
+    /// Returns the frames, by number from 0: at most 1,048,575. Each has the words of a page, or is free and has
+    /// none.
     pub fn frames(&self) -> &Frames
         ensures { result.now ≡ self.now.frames }
     {
         &self.frames
     }
 
-    /// The number of the page that each frame is the memory of; a free frame has none.
+    /// Returns the number of the page that owns each frame; a free frame has none.
     pub fn owners(&self) -> &[Option<u32>]
         ensures { result.now ≡ self.now.owners }
     {
         &self.owners
     }
 
-    /// The number of free frames.
+    /// Returns the number of free frames.
     pub fn free_frames(&self) -> u32
         ensures { result ≡ count_by is_none self.now.owners }
     {
         self.free
     }
 
-    /// The number of frames that are the memory of a page.
+    /// Returns the number of frames that are the memory of a page.
     pub fn used_frames(&self) -> usize
         ensures { result ≡ count_by is_some self.now.owners }
     {
         self.frames.len() - self.free as usize
     }
 
-    /// The record of a page by a number that may be greater than any page's.
+    /// Returns the record of a page by a number that may be greater than any page's.
     #[inline(always)]
     #[tactic(auto, unfolding(model::specs::Stores::page_at))]
     fn record(&self, number: u64) -> Option<Page>
@@ -185,7 +186,7 @@ impl Store {
         self.pages.get((number as usize).wrapping_sub(1)).copied()
     }
 
-    /// The record of a page by its number, if it has one: none for 0, nor past the records.
+    /// Returns the record of a page by its number, if it has one: `None` for 0, and past the records.
     #[inline(always)]
     pub fn page(&self, number: u32) -> Option<Page>
         ensures { result ≡ page_at self.now number }
@@ -193,7 +194,7 @@ impl Store {
         self.record(u64::from(number))
     }
 
-    /// The frame of a page, if it has memory.
+    /// Returns the frame of a page, if it has memory.
     #[inline(always)]
     fn frame(&self, number: u32) -> Option<u32>
         ensures { result ≡ frame_in (page_at self.now number) }
@@ -201,7 +202,7 @@ impl Store {
         self.recorded_frame(u64::from(number))
     }
 
-    /// The same, by a number that may be greater than any page's.
+    /// Returns the frame of a page, if it has memory, by a number that may be greater than any page's.
     #[inline(always)]
     fn recorded_frame(&self, number: u64) -> Option<u32>
         ensures { result ≡ frame_in (page_at self.now number) }
@@ -212,7 +213,7 @@ impl Store {
         }
     }
 
-    /// How a page is used, by a number that may be greater than any page's.
+    /// Returns the state of a page by a number that may be greater than any page's.
     #[inline(always)]
     #[tactic(auto, unfolding(model::specs::Stores::state_at))]
     fn recorded_state(&self, number: u64) -> PageState
@@ -224,7 +225,7 @@ impl Store {
         }
     }
 
-    /// How a page is used; unused where there is no such page.
+    /// Returns the state of a page; Unused if there is no such page.
     #[inline(always)]
     pub fn state(&self, number: u32) -> PageState
         ensures { result ≡ state_at self.now number }
@@ -232,7 +233,7 @@ impl Store {
         self.recorded_state(u64::from(number))
     }
 
-    /// The page of an address, which there need not be.
+    /// Returns the page number of an address. There need not be such a page.
     #[inline(always)]
     pub fn page_of(&self, address: Addr) -> u64
         ensures { result ≡ address / self.now.words }
@@ -240,7 +241,7 @@ impl Store {
         self.size.page_of(address.number())
     }
 
-    /// How the page of an address is used; unused where there is no such page.
+    /// Returns the state of the page of an address; Unused if there is no such page.
     #[inline(always)]
     pub fn state_behind(&self, address: Addr) -> PageState
         ensures { result ≡ state_at self.now (address / self.now.words) }
@@ -248,7 +249,7 @@ impl Store {
         self.recorded_state(self.page_of(address))
     }
 
-    /// The offset of an address in its page: below the words of a page.
+    /// Returns the offset of an address in its page: below the words of a page.
     #[inline(always)]
     pub fn offset_of(&self, address: Addr) -> u32
         ensures { result ≡ address % self.now.words }
@@ -256,7 +257,7 @@ impl Store {
         self.size.offset_of(address.number()) as u32
     }
 
-    /// The frame and the offset of an address, if its page has memory.
+    /// Returns the frame and the offset of an address, if its page has memory.
     #[tactic(auto, unfolding(model::specs::Stores::spot_of))]
     fn spot(&self, address: u64) -> Option<(u32, usize)>
         ensures { result ≡ spot_of self.now address }
@@ -265,7 +266,7 @@ impl Store {
         Some((frame, self.size.offset_of(address) as usize))
     }
 
-    /// The word at an offset of a frame, if it is there.
+    /// Returns the word at an offset of a frame, if it exists.
     #[inline(always)]
     fn word_in(&self, frame: u32, offset: usize) -> Option<u64>
         ensures { result ≡ word_in self.now.frames (Some (frame, offset)) }
@@ -273,7 +274,7 @@ impl Store {
         self.frames.word(frame as usize, offset)
     }
 
-    /// The word at an address, if its page has memory.
+    /// Returns the word at an address, if its page has memory.
     #[tactic(auto, unfolding(model::specs::Stores::word_at))]
     pub fn word(&self, address: u64) -> Option<u64>
         ensures { result ≡ word_at self.now address }
@@ -282,7 +283,7 @@ impl Store {
         self.word_in(frame, offset)
     }
 
-    /// The words of a page by its number, if it has memory.
+    /// Returns the words of a page by its number, if it has memory.
     #[tactic(auto, unfolding(model::specs::Stores::words_at))]
     pub fn words(&self, page: u32) -> Option<&[u64]>
         ensures { option_map (λ w. w.now) result ≡ words_at self.now page }
@@ -292,7 +293,7 @@ impl Store {
         Some(frame.words())
     }
 
-    /// Writes the word at an offset of a frame, if it is there.
+    /// Writes the word at an offset of a frame, if it exists.
     #[inline(always)]
     fn set_word_in(&mut self, frame: u32, offset: usize, value: u64)
         ensures { self.new ≡ record self.old {

@@ -2,34 +2,35 @@
 //! heap that keeps a history, the verifier, and reports. The heap is that of Click, Tene and Wolf, "The
 //! Pauseless GC Algorithm" (VEE 2005).
 //!
-//! Make a `Config` by `Config::new`, and of it a `Heap`. What a mutator thread does is a call of the
-//! trait `Mutating` each, such as `heap.datum(thread, object, index)`, which gives a plain value or a
-//! `Refusal`. The trait `Holding` has what a program asks besides: `heap.read` loads a reference, through
-//! the read barrier; `heap.make` makes an object, and collects by itself where frames run low;
-//! `heap.collect` is a whole collection. The trait `Counting` has the same calls, which count in `Counters` what
-//! collections have come to. Calls that need memory take an allocator first, which a program
-//! gets from its runtime by `rt.alloc()`.
+//! Make a `Config` by `Config::new`, and a `Heap` from it, which owns the policy by which it is collected, the increment
+//! of its collection in parts, and `Counters` of its collections. The trait `HeapCalls` has its calls: each operation of
+//! a mutator thread, such as `heap.datum(thread, object, index)`, returns a plain value or a `Refusal`; `heap.read` loads
+//! a reference through the read barrier; `heap.make` allocates an object, and collects if frames run low; `heap.collect`
+//! is a complete collection. Threads, registers, fields, data words, layouts and globals are numbers of different types,
+//! such as `Register(0)`, so a call with two of them swapped doesn't compile. Calls that allocate take an allocator first;
+//! a program gets it from its runtime by `rt.alloc()`.
 //!
-//! A `Heap` keeps, as the invariant of its type, that it stands for a plain heap, which never moves or
-//! frees an object; `Heap::law` hands that out. `Heap::heap` lends the bare heap inside for reading, and
-//! nothing here lends it for writing.
+//! The invariant of the type `Heap` is that it represents a reference model, in which nothing moves or is freed;
+//! `Heap::law` returns it as a fact. `Heap::managed` borrows the `ManagedHeap` inside for reading, and `into_managed`
+//! returns it. Its calls take plain numbers, and policies and increments as arguments, by the traits `Mutating`,
+//! `Holding` and `Counting`.
 //!
-//! Threads of the system share a heap by a `SharedHeap`: each has a `ThreadSeat`, and works in portions of
-//! many steps on a `Mutator`, by the calls of `MutatorCalls`; a `CollectorSeat` collects between portions. A
-//! `View` reads a whole heap without steps, by `Handle`s of its objects, also by several threads at once.
+//! Threads of the system share a heap by a `SharedHeap`: each has a `ThreadSeat`, and works in portions of many steps on
+//! a `Mutator`, by the calls of `PortionCalls`, or of `MutatorCalls`, which take plain numbers; a `CollectorSeat`
+//! collects between portions. A `View` reads the complete heap without steps, by `Handle`s of its objects, also from
+//! several threads.
 //!
-//! A `Book` is a heap that keeps the history of its steps, and `Shared` a book that threads of the
-//! system share. What their actors do is asked as a `Step` of an `Actor`; what comes is a `Reply`: an
-//! `Answer` or a `Refusal`.
+//! A `Book` is a heap with the history of its steps, and `Shared` a book that threads of the system share.
+//! Their actors pass a `Step` of an `Actor` and get a `Reply`: an `Answer` or a `Refusal`.
 //!
-//! A runtime's author who doubts a heap asks `verify`: it takes the heap's `Image`, all of its memory
-//! and roots as plain data, and says `Sound` or the first fault. An image can be printed. Of a `Heap`
-//! `verify_held` says `Sound`, by its contract. `report_heap` writes how a heap stands, in lines of text.
+//! `verify` checks a heap independently: it takes the heap's `Image`, all memory and roots as plain data, and
+//! returns `Sound` or the first fault. An image can be printed. For a `ManagedHeap`, `verify_held` returns `Sound`, by
+//! its contract. `report_heap` prints the state of a heap in lines of text.
 //!
-//! `use pauseless::prelude::*` brings the heap, its configuration and the traits that have its calls.
+//! `use pauseless::prelude::*` brings the heap, its configuration, its calls and the types of numbers.
 //!
-//! There is no code here: each name stands in a crate of its own, with its contract. The heap is
-//! `managed::ManagedHeap` there.
+//! There is no code here: each name is defined in a crate of its own, with its contract. The heap is
+//! `typed::TypedHeap`.
 #![tactic(auto)]
 
 pub mod prelude;
@@ -47,11 +48,16 @@ pub use drains::{Portion, is_ready};
 pub use heap::{Config, ConfigFault, NewFault, Refusal};
 pub use heap_images::{image_of, verify};
 pub use layout::{Layout, Layouts};
-pub use managed::{FieldLoad, LoadsFault, ManagedHeap as Heap};
+pub use managed::{FieldLoad, LoadsFault, ManagedHeap};
 pub use portions::{
     CollectorSeat, Handle, Mutator, MutatorCalls, OpenFault, Seats, SharedHeap, ThreadSeat, View,
 };
 pub use reporting::{ReportFault, report_heap};
 pub use sharing::{Seat, Settled, Shared, Steps, Stray, settle};
+pub use typed::{
+    BulkCalls, Datum, Field, GlobalNumber, HeapCalls, LayoutNumber, Register, Thread,
+    TypedHeap as Heap, USUAL_BUDGET,
+};
+pub use typed_portions::PortionCalls;
 pub use verify::{Fault, Image, PageImage, Root, Verdict, Words, verify_image};
 pub use verifying::verify_held;

@@ -1,9 +1,12 @@
 //! What a program on the library uses mostly: `use pauseless::prelude::*`.
 //!
-//! It has the heap with its configuration, and the traits `Mutating` and `Holding`, whose methods are the heap's calls.
+//! It has the heap with its configuration, the trait `HeapCalls`, whose methods are the heap's calls, and the types of
+//! the numbers that these take.
 
-pub use collecting::{Collected, Holding, Policy};
-pub use cycle::Mutating;
+pub use collecting::{Collected, Policy};
 pub use heap::{Config, Refusal};
 pub use layout::{Layout, Layouts};
-pub use managed::ManagedHeap as Heap;
+pub use typed::{
+    BulkCalls, Datum, Field, GlobalNumber, HeapCalls, LayoutNumber, Register, Thread,
+    TypedHeap as Heap,
+};

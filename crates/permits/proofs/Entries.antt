@@ -1,4 +1,4 @@
--- Entries of side arrays, each as it has to be.
+-- Entries of forwarding tables that meet their conditions.
 use Rattle.std.proofs.Common.{◌≡◌, ℕ, zero, suc, ◌+◌, ◌*◌, ◌≤◌, ◌<◌, ◌&&◌, Bool, true, false, cond, List, [], ◌∷◌}
 use Rattle.std.proofs.Common.{length, drop}
 use Rattle.std.proofs.Common.{Some, None, nat_le, nat_lt, refl, sym, ◌∙◌, ap, subst, arith}
@@ -14,7 +14,7 @@ use Rattle.model.specs.Owning.{Each}
 use Rattle.model.specs.States.{HeapState}
 use Rattle.permits.specs.Permits.{IsSideFor, are_entries, is_entry, is_fine, next_low}
 
--- what one entry tells
+-- one entry meets its conditions if the test says so
 one : (c : Config) (low : ℕ) (f : Forwarding) → is_fine c low f ≡ true
     → (low ≤ f.offset) × (f.offset < c.words) × (f.to < (c.pages + 1) * c.words)
 one c low f e =
@@ -26,7 +26,7 @@ one c low f e =
           second.1,
     )
 
--- what is said of one entry
+-- the test of one entry that meets its conditions
 one_is : (c : Config) (low : ℕ) (f : Forwarding) → low ≤ f.offset → f.offset < c.words → f.to < (c.pages + 1) * c.words
     → is_fine c low f ≡ true
 one_is c low f a b d = grind (arith, nat_tests)
@@ -54,7 +54,7 @@ all_is c low (f ∷ fs) rising places =
     ap (λ b. b && are_entries c (f.offset + 1) fs) (one_is c low f rising.0 rising.1 (places zero f refl))
     ∙ all_is c (f.offset + 1) fs rising.2 (λ i x at. places (suc i) x at)
 
--- the test says which side arrays a heap may have
+-- the test is true exactly for the forwarding tables that a heap may have
 pub side_told : (h : HeapState) (side : List Forwarding) (b : Bool) → b ≡ are_entries h.config 0 side
     → MatchBool b (IsSideFor h side) (¬ IsSideFor h side)
 side_told h side true e = (rise h.config 0 side (sym e), go h.config 0 side (sym e))
@@ -82,7 +82,7 @@ entries_more c low next i side e =
     let same : suc i ≡ i + 1 = omega arith in
     more c low next i side e ∙ ap (λ n. are_entries c next (drop n side)) same
 
--- an entry that isn't as it has to be
+-- an entry that doesn't meet its conditions
 pub entries_stop : (c : Config) (low i : ℕ) (side : List Forwarding) → i < length side
     → None ≡ next_low c low (slice_get side i) → are_entries c low (drop i side) ≡ false
 entries_stop c low i [] within e = absurd (omega (arith, within))

@@ -1,4 +1,4 @@
--- Runs of entries that go to one target.
+-- Runs of entries with one target.
 use Rattle.std.proofs.Common.{◌≡◌, ℕ, ◌+◌, ◌/◌, ◌≤◌, ◌<◌, Bool, true, false, List, length, nat_lt}
 use Rattle.std.proofs.Common.{Option, Some, refl, sym, ◌∙◌, ap, arith}
 use Rattle.std.specs.List.{slice_get}
@@ -9,7 +9,7 @@ use Rattle.model.specs.declared.records.Forwarding.{Forwarding}
 use Rattle.model.proofs.Lists.{get_within}
 use Rattle.permits.specs.Permits.{goes_to}
 
--- an entry that is there goes to the target
+-- an entry that exists goes to the target
 goes_there : (words target : ℕ) (o : Option Forwarding) (f : Forwarding) → goes_to words target o ≡ true → o ≡ Some f
     → f.to / words ≡ target
 goes_there words target o f e at = eqb-true (f.to / words) target (sym (ap (goes_to words target) at) ∙ e)

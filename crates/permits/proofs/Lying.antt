@@ -8,7 +8,7 @@ use Rattle.model.specs.Owning.{LiesIn}
 use Rattle.model.specs.Stores.{StoreState, is_open, state_at}
 use Rattle.permits.specs.Permits.{lies_in}
 
--- what the test tells
+-- a buffer that passes the test lies in an open page
 yes_lies : (s : StoreState) (b : Buffer) → lies_in s b ≡ true → LiesIn s b
 unfolding state_at
 yes_lies s b e =
@@ -20,7 +20,7 @@ yes_lies s b e =
       end = leb-true b.end s.words second.1;
     }
 
--- what lies in an open page passes the test
+-- a buffer that lies in an open page passes the test
 lies_yes : (s : StoreState) (b : Buffer) → LiesIn s b → lies_in s b ≡ true
 unfolding state_at
 lies_yes s b l = both (is_open (state_at s b.page)) l.page
@@ -28,7 +28,7 @@ lies_yes s b l = both (is_open (state_at s b.page)) l.page
     both : (o : Bool) → o ≡ true → (o && (nat_le b.next b.end && nat_le b.end s.words)) ≡ true
     both o e = grind (arith, nat_tests, e, l.order, l.end)
 
--- the test says which buffers lie in an open page
+-- the test is true exactly for buffers that lie in an open page
 pub buffer_told : (s : StoreState) (b : Buffer) (t : Bool) → t ≡ lies_in s b → MatchBool t (LiesIn s b) (¬ LiesIn s b)
 buffer_told s b true e = yes_lies s b (sym e)
 buffer_told s b false e = λ lies. true≢false (sym (lies_yes s b lies) ∙ sym e)

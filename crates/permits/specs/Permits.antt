@@ -1,4 +1,4 @@
--- What calls ask of their callers, of many records at once (ours).
+-- Preconditions of calls that depend on several records.
 use Rattle.std.specs.Prelude.{ℕ, ◌+◌, ◌*◌, ◌/◌, ◌≤◌, ◌==◌, ◌&&◌, Bool, true, false, List, [], ◌∷◌, length}
 use Rattle.std.specs.Prelude.{Option, Some, None, nat_le, nat_lt, if◌then◌else◌}
 use Rattle.heap.specs.Runs.{GoTo}
@@ -11,11 +11,11 @@ use Rattle.model.specs.declared.records.Buffer.{Buffer}
 use Rattle.model.specs.States.{HeapState}
 use Rattle.model.specs.Stores.{StoreState, is_open, state_at}
 
--- entries of a side array of a heap: their offsets rise and lie in a page, and each goes to a page
+-- entries of a forwarding table of a heap: their offsets rise and lie in a page, and each goes to a page
 abbrev pub IsSideFor : HeapState → List Forwarding → Type 0
 IsSideFor h side = AreRising h.config.words 0 side × Each side (GoesToPage h.config)
 
--- page n has k entries from number e on, and all of them go to a target
+-- page n has k entries from number e on, and all of them go to one target
 abbrev pub IsRunOn : HeapState → ℕ → ℕ → ℕ → ℕ → Type 0
 IsRunOn h n target e k =
     (e + k ≤ length (of_page h.sides n)) × GoTo h.store.words target (of_page h.sides n) e k
@@ -24,16 +24,16 @@ IsRunOn h n target e k =
 abbrev pub is_entry : Config → ℕ → Forwarding → Bool
 is_entry c low f = nat_le low f.offset && nat_lt f.to ((c.pages + 1) * c.words)
 
--- an entry is as it has to be: it lies in a page too
+-- an entry meets its conditions: it also lies in a page
 abbrev pub is_fine : Config → ℕ → Forwarding → Bool
 is_fine c low f = nat_lt f.offset c.words && is_entry c low f
 
--- the lowest offset of the entry behind this one
+-- the lowest offset of the entry after this one; none if this one doesn't meet its conditions
 abbrev pub next_low : Config → ℕ → Option Forwarding → Option ℕ
 next_low c low None = None
 next_low c low (Some f) = if is_fine c low f then Some (f.offset + 1) else None
 
--- all entries are as they have to be, from a lowest offset on
+-- all entries meet their conditions, from a lowest offset on
 abbrev pub are_entries : Config → ℕ → List Forwarding → Bool
 are_entries c low [] = true
 are_entries c low (f ∷ fs) = is_fine c low f && are_entries c (f.offset + 1) fs

@@ -1,4 +1,4 @@
-//! Buffers that are lent for writing.
+//! Buffers that may be lent for writing.
 
 ghost use Rattle.std.specs.Prelude.{◌≡◌, MatchBool};
 ghost use Rattle.model.specs.Owning.{LiesIn};
@@ -8,21 +8,21 @@ ghost use Rattle.permits.specs.Permits.{lies_in};
 use model::{Buffer, PageState};
 use page::Store;
 
-/// Whether a page is open.
+/// Returns whether a page is open.
 fn is_open(store: &Store, page: u32) -> bool
     ensures { result ≡ is_open (state_at store.now page) }
 {
     matches!(store.state(page), PageState::Open)
 }
 
-/// Whether a buffer lies in an open page.
+/// Returns whether a buffer lies in an open page.
 fn lies_in(store: &Store, buffer: &Buffer) -> bool
     ensures { result ≡ lies_in store.now buffer.now }
 {
     is_open(store, buffer.page) && buffer.next <= buffer.end && buffer.end <= store.page_words()
 }
 
-/// Whether a buffer lies in an open page, which is what `Store::part_mut` asks.
+/// Returns whether a buffer lies in an open page, as `Store::part_mut` requires.
 #[tactic(auto, using(crate::proofs::Lying::buffer_told))]
 pub fn can_lend_part(store: &Store, buffer: &Buffer) -> bool
     ensures { MatchBool result (LiesIn store.now buffer.now) (¬ LiesIn store.now buffer.now) }

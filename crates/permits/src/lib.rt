@@ -1,5 +1,4 @@
-//! Whether calls may be made that ask something of their caller (ours): what takes a look at more than
-//! one record to know. Each answers yes exactly where its call may be made.
+//! Tests of preconditions that depend on several records. Each returns true exactly if its call's precondition holds.
 #![tactic(auto)]
 
 mod buffers;

@@ -8,7 +8,7 @@ ghost use Rattle.permits.specs.Permits.{IsRunOn, goes_to};
 
 use heap::Heap;
 
-/// Whether the object of an entry goes to a target.
+/// Returns whether the object of an entry goes to a target.
 fn goes_to(heap: &Heap, page: u32, entry: u32, target: u64) -> bool
     ensures { result ≡ goes_to heap.now.store.words target (slice_get (of_page heap.now.sides page) entry) }
 {
@@ -18,7 +18,7 @@ fn goes_to(heap: &Heap, page: u32, entry: u32, target: u64) -> bool
     }
 }
 
-/// Whether all entries of a run go to a target.
+/// Returns whether all entries of a run go to a target.
 #[tactic(auto, using(crate::proofs::Going::run_none, crate::proofs::Going::run_more, crate::proofs::Going::run_stops))]
 fn go_to(heap: &Heap, page: u32, target: u64, first: u32, count: u32) -> bool
     requires within { first + count ≤ length (of_page heap.now.sides page) }
@@ -34,8 +34,8 @@ fn go_to(heap: &Heap, page: u32, target: u64, first: u32, count: u32) -> bool
     true
 }
 
-/// Whether a page has so many entries from a number on, and all of them go to one target, which is what
-/// `Heap::raw_copy_run` and `raw_copy_run_by` ask. Pages count from 1, entries from 0.
+/// Returns whether a page has `count` entries from number `first` on, and all of them go to one target, as
+/// `Heap::raw_copy_run` and `raw_copy_run_by` require. Pages count from 1, entries from 0.
 pub fn can_copy_run(heap: &Heap, page: u32, target: u64, first: u32, count: u32) -> bool
     ensures { MatchBool result (IsRunOn heap.now page target first count) (¬ IsRunOn heap.now page target first count) }
 {

@@ -1,4 +1,4 @@
-//! Side arrays that a page may be given.
+//! Forwarding tables that a page may be given.
 
 ghost use Rattle.std.specs.Prelude.{◌≡◌, MatchBool, slice_get};
 ghost use Rattle.permits.specs.Permits.{IsSideFor, are_entries, is_entry, next_low};
@@ -7,7 +7,7 @@ use forward::Side;
 use heap::Heap;
 use model::Forwarding;
 
-/// Whether an entry's offset is at least a lowest one, and its object goes to a page.
+/// Returns whether an entry's offset is at least a lowest one, and its object goes to a page.
 fn is_entry(heap: &Heap, low: u32, entry: Forwarding) -> bool
     ensures { result ≡ is_entry heap.now.config low entry }
 {
@@ -17,7 +17,7 @@ fn is_entry(heap: &Heap, low: u32, entry: Forwarding) -> bool
     low <= entry.offset && entry.to.number() < end
 }
 
-/// The lowest offset of the next entry, where this one is as it has to be and lies in a page.
+/// Returns the lowest offset of the next entry; `None` if this one doesn't meet its conditions.
 fn next_low(heap: &Heap, low: u32, entry: Option<Forwarding>) -> Option<u32>
     ensures { result ≡ next_low heap.now.config low entry }
 {
@@ -34,7 +34,7 @@ fn next_low(heap: &Heap, low: u32, entry: Option<Forwarding>) -> Option<u32>
     }
 }
 
-/// Whether all entries are as they have to be.
+/// Returns whether all entries meet their conditions.
 #[tactic(auto, using(crate::proofs::Entries::entries_more, crate::proofs::Entries::entries_stop))]
 fn are_entries(heap: &Heap, side: &Side) -> bool
     ensures { result ≡ are_entries heap.now.config 0 side.now }
@@ -49,8 +49,8 @@ fn are_entries(heap: &Heap, side: &Side) -> bool
     true
 }
 
-/// Whether the offsets of entries rise and lie in a page, and each entry goes to a page, which is what
-/// `Heap::raw_set_side` asks.
+/// Returns whether the offsets of entries rise and lie in a page, and each entry goes to a page, as
+/// `Heap::raw_set_side` requires.
 #[tactic(auto, using(crate::proofs::Entries::side_told))]
 pub fn can_set_side(heap: &Heap, side: &Side) -> bool
     ensures { MatchBool result (IsSideFor heap.now side.now) (¬ IsSideFor heap.now side.now) }

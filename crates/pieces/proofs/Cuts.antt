@@ -1,4 +1,4 @@
--- Runs that are cut in two, and the target's part with them.
+-- Runs that are cut in two, together with the target's part.
 use Rattle.std.proofs.Common.{◌≡◌, ℕ, zero, suc, ◌+◌, ◌-◌, ◌/◌, ◌%◌, ◌≤◌, ◌<◌, List, [], ◌∷◌, ◌++◌, length, take, drop}
 use Rattle.std.proofs.Common.{Option, Some, None, refl, sym, ap, ◌∙◌, subst, arith, cond, Bool, true, false}
 use Rattle.std.specs.List.{slice_get}
@@ -11,7 +11,7 @@ use Rattle.pieces.specs.Pieces.{SourceState, AreInOrder, Follows, end_by, size_a
 use Rattle.pieces.proofs.Orders.{order_low}
 use Rattle.pieces.proofs.Overlays.{overlaid_front, overlaid_back}
 
--- so many entries, and then others
+-- k entries are laid as j of them, and then the others
 pub laid_on : (s : SourceState) (base e j k : ℕ) (ws : List ℕ)
     → laid_from s base e (j + k) ws ≡ laid_from s base (e + j) k (laid_from s base e j ws)
 laid_on s base e zero k ws = let z : zero + k ≡ k = omega arith in let y : e ≡ e + zero = omega arith in
@@ -37,7 +37,7 @@ length_laid s base (Some f) ws = by_copied f.copied
     by_copied true = refl
     by_copied false = length_overlaid ws (f.to % s.size - base) (words_at s f.offset)
 
--- an object that lies in the front part leaves the back
+-- an object in the front part doesn't change the back part
 laid_front_by : (s : SourceState) (base low : ℕ) (o : Option Forwarding) (a b : List ℕ) → base ≤ low → Follows s low o
     → end_by s low o ≤ base + length a → laid_by s base o (a ++ b) ≡ laid_by s base o a ++ b
 laid_front_by s base low None a b h f z = refl
@@ -68,7 +68,7 @@ laid_front s base low e (suc k) a b h z =
     by_entry None f = h
     by_entry (Some g) f = omega (arith, h, f)
 
--- one that lies in the back leaves the front
+-- an object in the back part doesn't change the front part
 laid_back_by : (s : SourceState) (base low : ℕ) (o : Option Forwarding) (a b : List ℕ) → base + length a ≤ low
     → Follows s low o → laid_by s base o (a ++ b) ≡ a ++ laid_by s (base + length a) o b
 laid_back_by s base low None a b h f = refl
@@ -95,7 +95,7 @@ laid_back s base low high e (suc k) a b h z =
     by_entry None f = h
     by_entry (Some g) f = omega (arith, h, f)
 
--- the first of them lie before where the next one begins
+-- the first entries' objects end before the next one's begins
 order_front : (s : SourceState) (low high e j k : ℕ) (f : Forwarding) → AreInOrder s low high e (j + suc k)
     → slice_get s.side (e + j) ≡ Some f → AreInOrder s low (f.to % s.size) e j
 order_front s low high e zero k f h at =
@@ -120,7 +120,7 @@ from_here s low high e k f h at = by_entry (slice_get s.side e) at h.1
         let same : x.to % s.size ≡ f.to % s.size = ap (λ (y : Forwarding). y.to % s.size) (same_Some _ _ g) in
         (omega (arith, same), z)
 
--- the others begin there
+-- the other entries' objects begin there
 order_back : (s : SourceState) (low high e j k : ℕ) (f : Forwarding) → AreInOrder s low high e (j + suc k)
     → slice_get s.side (e + j) ≡ Some f → AreInOrder s (f.to % s.size) high (e + j) (suc k)
 order_back s low high e zero k f h at =
@@ -146,7 +146,7 @@ length_cut zero ws h = refl
 length_cut (suc n) [] h = absurd (omega (arith, h))
 length_cut (suc n) (w ∷ ws) h = ap suc (length_cut n ws (omega (arith, h)))
 
--- where a run is cut: at the place of the entry at its middle
+-- a run is cut at the place of the entry at its middle
 
 module _ (s : SourceState) (first count base len : ℕ) (order : AreInOrder s base (base + len) first count)
     (some : 0 < count) (f : Forwarding) (at : slice_get s.side (first + count / 2) ≡ Some f) where

@@ -1,4 +1,4 @@
--- Words that are laid over others.
+-- Words that are written over others.
 use Rattle.std.proofs.Common.{◌≡◌, ℕ, zero, suc, ◌+◌, ◌-◌, ◌≤◌, List, [], ◌∷◌, ◌++◌, length, take, drop, refl, sym, ap}
 use Rattle.std.proofs.Common.{◌∙◌, subst, ◌<◌, arith}
 use Rattle.std.proofs.Math.ListN.{drop_of_length-le}
@@ -6,13 +6,13 @@ use Rattle.std.proofs.Math.Seq.{take-length}
 use Rattle.std.proofs.lemmas.List.{append-nil}
 use Rattle.model.specs.Stores.{overlay}
 
--- there is no room behind the end
+-- nothing is written past the end
 pub overlaid_past : (ws : List ℕ) (o : ℕ) (xs : List ℕ) → length ws ≤ o → ws ≡ overlay ws o xs
 overlaid_past [] o xs h = refl
 overlaid_past (w ∷ ws) zero xs h = absurd (omega (arith, h))
 overlaid_past (w ∷ ws) (suc o) xs h = ap (λ l. w ∷ l) (overlaid_past ws o xs (omega (arith, h)))
 
--- what fits stands there whole
+-- words that fit are there completely
 pub overlaid_whole : (ws : List ℕ) (o : ℕ) (xs : List ℕ) → o + length xs ≤ length ws
     → overlay ws o xs ≡ take o ws ++ (xs ++ drop (length xs) (drop o ws))
 overlaid_whole [] zero [] h = refl
@@ -32,7 +32,7 @@ overlaid_cut (w ∷ ws) zero (x ∷ xs) zero e = absurd (omega (arith, e))
 overlaid_cut (w ∷ ws) zero (x ∷ xs) (suc n) e = ap (λ l. x ∷ l) (overlaid_cut ws zero xs n (omega (arith, e)))
 overlaid_cut (w ∷ ws) (suc o) xs n e = ap (λ l. w ∷ l) (overlaid_cut ws o xs n (omega (arith, e)))
 
--- what lies in the front part leaves the back
+-- words in the front part don't change the back part
 pub overlaid_front : (a b : List ℕ) (o : ℕ) (xs : List ℕ) → o + length xs ≤ length a
     → overlay (a ++ b) o xs ≡ overlay a o xs ++ b
 overlaid_front [] b zero [] h = take-length b
@@ -42,7 +42,7 @@ overlaid_front (y ∷ a) b zero [] h = take-length ((y ∷ a) ++ b) ∙ ap (λ l
 overlaid_front (y ∷ a) b zero (x ∷ xs) h = ap (λ l. x ∷ l) (overlaid_front a b zero xs (omega (arith, h)))
 overlaid_front (y ∷ a) b (suc o) xs h = ap (λ l. y ∷ l) (overlaid_front a b o xs (omega (arith, h)))
 
--- what lies in the back leaves the front
+-- words in the back part don't change the front part
 pub overlaid_back : (a b : List ℕ) (o p : ℕ) (xs : List ℕ) → o ≡ length a + p
     → overlay (a ++ b) o xs ≡ a ++ overlay b p xs
 overlaid_back [] b o p xs h = let z : o ≡ p = omega (arith, h) in ap (λ n. overlay b n xs) z

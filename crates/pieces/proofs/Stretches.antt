@@ -1,4 +1,4 @@
--- Entries whose objects are written into pieces of the target, one behind the other.
+-- Entries whose objects are written into consecutive pieces of the target.
 use Rattle.std.proofs.Common.{◌≡◌, ℕ, suc, ◌+◌, ◌-◌, ◌%◌, ◌≤◌, List, ◌++◌, length, take, drop, Some, Bool, true, false}
 use Rattle.std.proofs.Common.{cond}
 use Rattle.std.proofs.Common.{sym, ap, ◌∙◌, arith}
@@ -26,7 +26,7 @@ laid_piece s f at a here rest new p n e = by_copied f.copied e
         ∙ ap (λ l. a ++ l) (overlaid_front here rest 0 xs (omega (arith, n)))
         ∙ ap (λ l. a ++ (l ++ rest)) (overlaid_all here xs (sym n) ∙ sym z)
 
--- the object of an entry, and those of others behind it
+-- the object of an entry, and those of others after it
 pub laid_next : (s : SourceState) (f : Forwarding) (at e k r : ℕ) (front gap here rest new more : List ℕ) → k ≡ suc r
     → slice_get s.side e ≡ Some f → f.to % s.size ≡ at + length (front ++ gap)
     → length here ≡ length (words_at s f.offset) → new ≡ cond f.copied here (words_at s f.offset)
@@ -54,7 +54,7 @@ length_filled : (c : Bool) (here words new : List ℕ) → length here ≡ lengt
 length_filled true here words new n e = ap length e ∙ n
 length_filled false here words new n e = ap length e
 
--- the same, as it is cut off what is left of the target
+-- the same, with pieces cut off the rest of the target
 pub laid_stretch : (s : SourceState) (f : Forwarding) (at base e k r place n : ℕ)
     (front ws gap rest here behind words new more : List ℕ) → base ≡ at + length front → k ≡ suc r
     → slice_get s.side e ≡ Some f → place ≡ f.to % s.size → base ≤ place → n ≡ place - base → n ≤ length ws
@@ -82,7 +82,7 @@ pub laid_none_yet : (s : SourceState) (base e k : ℕ) (ws new : List ℕ) → k
     ≡ ws
 laid_none_yet s base e k ws new h z = sym z ∙ ap (λ m. laid_from s base e m ws) h
 
--- so many are copied, and others behind them
+-- j entries are copied, and then the others
 pub laid_further : (s : SourceState) (base e d j k m : ℕ) (ws new : List ℕ) → m ≡ j + k → d ≡ e + j
     → new ≡ laid_from s base e j ws → laid_from s base e m ws ≡ laid_from s base d k new
 laid_further s base e d j k m ws new a b c = ap (λ n. laid_from s base e n ws) a ∙ laid_on s base e j k ws

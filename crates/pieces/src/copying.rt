@@ -1,4 +1,4 @@
-//! Objects are copied one after the other.
+//! Copying objects one after another.
 
 ghost use Rattle.std.specs.Prelude.{◌≡◌, ℕ, List, ◌++◌, ◌+◌, ◌-◌, ◌%◌, ◌<◌, ◌≤◌, length, slice_get, if◌then◌else◌};
 ghost use Rattle.std.specs.Prelude.{IfSome};
@@ -10,7 +10,7 @@ use crate::source::{Source, words_from};
 use model::Forwarding;
 use refword::Addr;
 
-/// Writes words over those of a list from a place on, as far as it goes.
+/// Writes words over those of a list from a place on, up to the list's end.
 #[tactic(auto, using(crate::proofs::Overlays::overlaid_past))]
 fn lay(target: &mut [u64], place: usize, words: &[u64])
     ensures { target.new ≡ overlay target.old place words.now }
@@ -28,8 +28,8 @@ fn lay(target: &mut [u64], place: usize, words: &[u64])
     here.copy_from_slice(words);
 }
 
-/// The offset of an address in its page, of so many words: mostly a power of two, by which nothing has
-/// to be divided.
+/// Returns the offset of an address in its page, by the page's number of words. A power of two, the usual case, needs
+/// no division.
 #[inline(always)]
 fn offset_in(size: u32, address: u64) -> u64
     requires { 0 < size }
@@ -43,7 +43,7 @@ fn offset_in(size: u32, address: u64) -> u64
     }
 }
 
-/// How far behind an offset of its page an address is; 0 where it is before that.
+/// Returns how far an address is after an offset of its page; 0 if it is before that.
 #[inline(always)]
 pub(crate) fn place_behind(source: &Source<'_>, to: Addr, base: usize) -> usize
     requires { 0 < source.now.size }
@@ -53,7 +53,7 @@ pub(crate) fn place_behind(source: &Source<'_>, to: Addr, base: usize) -> usize
     place.saturating_sub(base)
 }
 
-/// The entry of a number, if there is one, by the offset of the entry before it, if that is known.
+/// Returns the entry of a number, if it exists. The offset of the entry before it, if known, makes the search fast.
 #[inline(always)]
 pub(crate) fn entry_by(source: &Source<'_>, index: usize, before: Option<u32>) -> Option<Forwarding>
     requires { IfSome before (λ o. IsBehind source.now.side.now index o) }
@@ -65,8 +65,8 @@ pub(crate) fn entry_by(source: &Source<'_>, index: usize, before: Option<u32>) -
     }
 }
 
-/// Copies the object of an entry to its place, if it isn't copied yet. The words of the target begin
-/// at an offset of its page.
+/// Copies the object of an entry to its place, if it isn't copied yet. The words of `target` begin at offset `base`
+/// of the target page.
 fn copy_entry(source: &Source<'_>, entry: usize, base: usize, target: &mut [u64])
     requires { 0 < source.now.size }
     ensures { target.new ≡ laid_by (source_of source.now) base (slice_get source.now.side.now entry) target.old }
@@ -83,7 +83,7 @@ fn copy_entry(source: &Source<'_>, entry: usize, base: usize, target: &mut [u64]
     lay(target, place, words);
 }
 
-/// Copies words over others of the same number, unless they are copied already.
+/// Copies words over others of the same number, unless they are already copied.
 #[inline(always)]
 fn fill(here: &mut [u64], words: &[u64], copied: bool)
     requires { length here.old ≡ length words.now }
@@ -94,10 +94,9 @@ fn fill(here: &mut [u64], words: &[u64], copied: bool)
     }
 }
 
-/// Copies the objects of entries from a number on, each into the next piece that is cut off the
-/// target's words, as long as one begins where the one before it ended or behind that, and they go
-/// that far. The first is found by the offset of the entry before it, if that is known. Answers how
-/// many.
+/// Copies the objects of entries from number `first` on, each into the next piece that is cut off the target's words,
+/// until one begins before the end of the one before it or doesn't fit. The offset of the entry before `first`, if
+/// known, makes the search fast. Returns how many entries are done.
 fn copy_pieces(
     source: &Source<'_>,
     first: usize,
@@ -137,11 +136,11 @@ fn copy_pieces(
     1 + copy_pieces(source, first + 1, count - 1, behind, before, rest)
 }
 
-/// How many objects are written one behind another, before the target's words are cut anew.
+/// The most objects that are written into consecutive pieces before the target's words are cut again from the start.
 const STRETCH: usize = 256;
 
-/// Copies the objects of the next entries, of which there is one: as many as lie one behind another,
-/// as far as a stretch goes. Answers how many.
+/// Copies the objects of the next entries, of which there is at least one, up to a stretch's length, as long as their
+/// places follow each other. Returns how many entries are done.
 fn copy_stretch(
     source: &Source<'_>,
     first: usize,
@@ -164,7 +163,7 @@ fn copy_stretch(
     1
 }
 
-/// Copies the objects of so many entries from a number on.
+/// Copies the objects of `count` entries from number `first` on.
 pub(crate) fn copy_entries(
     source: &Source<'_>,
     first: usize,
@@ -183,8 +182,8 @@ pub(crate) fn copy_entries(
     }
 }
 
-/// Copies the objects of a run: of so many entries, from a number on, which go to one target. Those
-/// that are copied already aren't written. No memory is taken.
+/// Copies the objects of a run: of `count` entries with one target, from number `first` on. Objects that are already
+/// copied aren't written. It allocates nothing.
 pub fn copy_run(source: &Source<'_>, first: usize, count: usize, target: &mut [u64])
     requires size { 0 < source.now.size }
     requires within { first + count ≤ length source.now.side.now }

@@ -1,4 +1,4 @@
-//! Words are cut into pieces, each of which is written by itself.
+//! Cutting words into pieces, each of which is written on its own.
 
 ghost use Rattle.std.specs.Prelude.{◌≡◌, ◌++◌, take, drop, length, is_some, nat_le, IfSome, IfNone};
 ghost use Rattle.std.specs.Borrow.{sem, LendsBothIf, Array, u64};
@@ -20,15 +20,15 @@ impl<'a> Model for Cutter<'a> {
 }
 
 impl<'a> Cutter<'a> {
-    /// All words are left.
+    /// Returns a cutter of all these words.
     pub fn new(words: &'a mut [u64]) -> Cutter<'a>
         ensures { result ≡ words.old }
     {
         Cutter { rest: words }
     }
 
-    /// Cuts off the next words. `None` exactly where fewer are left, and then none is cut. The pieces
-    /// in their order, with what is left, are the words.
+    /// Cuts off the next `n` words. Returns `None` exactly if fewer are left; none is cut then. The pieces in their
+    /// order, followed by what is left, are the words.
     pub fn cut(&mut self, n: usize) -> Option<&'a mut [u64]>
         ensures none { is_some result ≡ nat_le n (length self.old) }
         ensures len { IfSome result (λ piece. length piece.now ≡ n) }
@@ -45,8 +45,8 @@ impl<'a> Cutter<'a> {
     }
 }
 
-/// The first words, and the rest. `None` exactly where there are fewer, and then none is cut. Words
-/// that are cut so end as what was written into both, one behind the other.
+/// Returns the first `n` words, and the rest. Returns `None` exactly if there are fewer. When the borrows end, the
+/// words are the concatenation of both parts.
 #[inline(always)]
 pub fn cut_off(words: &mut [u64], n: usize) -> Option<(&mut [u64], &mut [u64])>
     ensures none { is_some result ≡ nat_le n (length words.old) }

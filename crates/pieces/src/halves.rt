@@ -1,4 +1,4 @@
-//! Objects are copied by halves, each on a thread of its own (ours).
+//! Copying objects by halves, each on a thread of its own.
 
 ghost use Rattle.std.specs.Prelude.{◌≡◌, ◌+◌, ◌-◌, ◌*◌, ◌/◌, ◌<◌, ◌≤◌, ◌^◌, ◌++◌, ℕ, List, true, length, take, drop};
 ghost use Rattle.std.specs.Prelude.{slice_get, IfSome, Some};
@@ -11,14 +11,14 @@ use crate::copying::{copy_entries, entry_by, place_behind};
 use crate::source::Source;
 use std::thread::{Threads, join_mut};
 
-/// What is told of each piece of a page before it is copied. Pieces count from 0, by rising entries
-/// over all runs of the page, empty ones too.
+/// A callback for each piece of a page before it is copied. Pieces count from 0, by rising entries over all runs of
+/// the page, including empty pieces.
 pub trait PieceGate {
-    /// The thread that copies a piece is about to do so.
+    /// Called by the thread that is about to copy a piece.
     fn begin(&self, piece: u32);
 }
 
-/// How many pieces a run has.
+/// Returns the number of pieces of a run: 2 to the power of the depth, at most 16.
 fn parts_of(depth: u32) -> u32
     ensures low { 0 < result }
     ensures high { result ≤ 16 }
@@ -32,8 +32,8 @@ fn parts_of(depth: u32) -> u32
     }
 }
 
-/// Where the object of an entry that there is ends in its target, if it doesn't begin below a place, and
-/// the entry's offset. It is found by the offset of the entry before it, if that is known.
+/// Returns the end of an entry's object in its target, and the entry's offset, if the entry exists and its object
+/// doesn't begin below `low`. The offset of the entry before it, if known, makes the search fast.
 #[inline(always)]
 fn end_behind(
     source: &Source<'_>,
@@ -57,7 +57,7 @@ fn end_behind(
     Some((place + source.size_at(entry.offset), entry.offset))
 }
 
-/// Whether the objects of entries are to lie one behind the other, and end within so many words.
+/// Returns whether the places of entries' objects follow each other, and end within `high` words.
 #[tactic(auto, using(crate::proofs::Orders::order_more, crate::proofs::Orders::order_all, crate::proofs::Orders::behind_next))]
 fn is_in_order(source: &Source<'_>, first: usize, count: usize, high: usize) -> bool
     requires size { 0 < source.now.size }
@@ -76,8 +76,8 @@ fn is_in_order(source: &Source<'_>, first: usize, count: usize, high: usize) -> 
     low <= high
 }
 
-/// Where the target's part is cut: at the place of the first entry of the second half, which is at
-/// the middle, rounded down.
+/// Returns the offset in the target's part at which it is cut: the place of the first entry of the second half of the
+/// run, which is halved rounded down.
 #[tactic(auto, using(crate::proofs::Orders::order_all))]
 fn cut_at(source: &Source<'_>, first: usize, count: usize, base: usize, len: usize) -> usize
     requires size { 0 < source.now.size }
@@ -101,7 +101,7 @@ fn cut_at(source: &Source<'_>, first: usize, count: usize, base: usize, len: usi
     place_behind(source, entry.to, base)
 }
 
-/// Copies the objects of entries in so many pieces, each on a thread of its own.
+/// Copies the objects of entries in pieces, each on a thread of its own.
 fn copy_by<R: Threads + Sync, G: PieceGate + Sync>(
     rt: &R,
     gate: &G,
@@ -154,7 +154,7 @@ fn copy_by<R: Threads + Sync, G: PieceGate + Sync>(
     );
 }
 
-/// Tells of so many pieces, one after the other.
+/// Calls the gate for each of a number of pieces in turn.
 fn begin_all<G: PieceGate>(gate: &G, first: u32, parts: u32)
     requires { first + parts ≤ 2 ^ 20 }
 {
@@ -163,10 +163,9 @@ fn begin_all<G: PieceGate>(gate: &G, first: u32, parts: u32)
     }
 }
 
-/// Copies the objects of a run, as `copy_run` does, by halves: the run is cut at its middle, rounded
-/// down, and its halves again, to a depth (above 4 counts as 4); the pieces are copied on threads of
-/// their own, each of which writes its own part of the target's words alone. Runs of a page count
-/// from 0. Where a thread can't be started, the one that calls copies its piece afterwards.
+/// Copies the objects of a run, as `copy_run` does, by halves: the run is halved, rounded down, to a depth (above 4
+/// counts as 4). Each piece is copied on a thread of its own, which alone writes its part of the target's words. Runs
+/// of a page count from 0. If a thread can't be started, the caller's thread copies the piece afterwards.
 pub fn copy_run_by<R: Threads + Sync, G: PieceGate + Sync>(
     rt: &R,
     gate: &G,

@@ -1,5 +1,5 @@
-//! Objects of a page that is being emptied are copied to their places on another page (the paper's
-//! Relocate phase), entry by entry of its side array, or by halves on threads (ours).
+//! Copying objects of a From page to their places on another page, entry by entry of its forwarding table, or by
+//! halves on threads.
 #![tactic(auto)]
 
 mod copying;

@@ -1,4 +1,4 @@
-//! The page that objects are copied from.
+//! The page from which objects are copied.
 
 ghost use Rattle.std.specs.Prelude.{◌≡◌, ◌<◌, ◌^◌, take, drop};
 ghost use Rattle.pieces.specs.Pieces.{source_of, size_at};
@@ -6,20 +6,20 @@ ghost use Rattle.pieces.specs.Pieces.{source_of, size_at};
 use forward::Side;
 use layout::{Layouts, layout_of};
 
-/// A page that is being emptied, and what has to be known to copy its objects.
+/// A page that is being emptied, and the data that is needed to copy its objects.
 #[derive(Drop)]
 pub struct Source<'a> {
     /// How many words a page has.
     pub size: u32,
     /// The words of the page.
     pub words: &'a [u64],
-    /// Where its objects go.
+    /// The page's forwarding table.
     pub side: &'a Side,
     /// The layouts of objects.
     pub layouts: &'a Layouts,
 }
 
-/// So many words of a list from an offset on, as far as it goes.
+/// Returns `count` words of a list from an offset on, up to the list's end.
 #[inline(always)]
 pub(crate) fn words_from(words: &[u64], offset: usize, count: usize) -> &[u64]
     ensures { result.now ≡ take count (drop offset words.now) }
@@ -30,7 +30,8 @@ pub(crate) fn words_from(words: &[u64], offset: usize, count: usize) -> &[u64]
 }
 
 impl Source<'_> {
-    /// How many words the object at an offset has. One that can't be read counts as its header alone.
+    /// Returns the number of words of the object at an offset. An object without a layout counts as 1, its header
+    /// alone.
     #[inline(always)]
     pub(crate) fn size_at(&self, offset: u32) -> usize
         ensures value { result ≡ size_at (source_of self.now) offset }

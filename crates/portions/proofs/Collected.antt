@@ -1,5 +1,5 @@
--- Collections in a portion: they neither begin a load nor park a thread or let it run, and what checkpoint they leave
--- open all threads can cross.
+-- Collections in a portion: they neither begin a load nor park a thread or let it run, and all threads can cross the
+-- checkpoint that they leave open.
 use Rattle.std.proofs.Common.{◌≡◌, ◌∙◌, ℕ, ◌+◌, Bool, true, false, List, [], ◌∷◌, ◌++◌, refl, sym, subst, ap, inl, inr}
 use Rattle.std.proofs.Common.{Option, Some, None, ◌/◌, arith, cond, not}
 use Rattle.std.specs.Prelude.{Result, Ok, Err}
@@ -29,7 +29,8 @@ use Rattle.managed.specs.declared.batches.FieldLoad.{FieldLoad}
 use Rattle.managed.specs.declared.batches.LoadsFault.{LoadsFault}
 use Rattle.managed.specs.Batches.{EndsFilling, EndsLoads, fill_steps, fill_test, set_steps, store_steps}
 use Rattle.managed.specs.Collecting.{IsCollecting}
-use Rattle.managed.specs.Data.{EndsWriting, set_entries}
+use Rattle.managed.specs.Bytes.{EndsWritingBytes}
+use Rattle.managed.specs.Data.{EndsCopying, EndsWriting, set_entries}
 use Rattle.managed.specs.Goings.{AllTried, Goes, IsCrossing, IsStuck, StandsForSame, Steps}
 use Rattle.managed.specs.Managing.{Promises}
 use Rattle.managed.specs.Runs.{Leads}
@@ -80,7 +81,7 @@ all_have_crossed ts e t = none_is_behind ts (by_found (first_behind ts) e) t
     by_found None f = refl
     by_found (Some u) f = absurd (cc)
 
--- where all threads could cross, they have, and no checkpoint is open
+-- if all threads could cross, they have, and no checkpoint is open
 pub crossed_all : (g : HeapState) (t : ℕ) (r : Result Unit Refusal) → r ≡ all_crossed g → AllTried WORKER r g
     → Promises g → RunsAlone g t → is_crossing g.phase ≡ false
 unfolding all_crossed
@@ -237,3 +238,15 @@ pub writes_apart : (t object j : ℕ) (values : List ℕ) (h g : HeapState) (r :
     → EndsWriting t object j values h r g → IsApart h t → IsApart g t
 writes_apart t object j values h g (Ok u) k a = entries_apart t object j values h g k.steps a
 writes_apart t object j values h g (Err e) k a = subst (λ (x : HeapState). IsApart x t) (sym k.0) a
+
+pub copies_apart : (t target j source i count : ℕ) (h g : HeapState) (r : Result Unit Refusal)
+    → EndsCopying t target j source i count h r g → IsApart h t → IsApart g t
+copies_apart t target j source i count h g (Ok u) (values, long, reads, runs) a =
+    entries_apart t target j values h g runs.steps a
+copies_apart t target j source i count h g (Err e) k a = subst (λ (x : HeapState). IsApart x t) (sym k.0) a
+
+pub bytes_apart : (t object at : ℕ) (bytes : List ℕ) (h g : HeapState) (r : Result Unit Refusal)
+    → EndsWritingBytes t object at bytes h r g → IsApart h t → IsApart g t
+bytes_apart t object at bytes h g (Ok u) (old, new, long, reads, is, fits, runs) a =
+    entries_apart t object (at / 8) new h g runs.steps a
+bytes_apart t object at bytes h g (Err e) k a = subst (λ (x : HeapState). IsApart x t) (sym k.0) a

@@ -1,4 +1,4 @@
--- A portion stays one of its thread.
+-- A portion stays a portion of its thread.
 use Rattle.std.proofs.Common.{◌≡◌, ◌∙◌, ℕ, false, List, [], ◌∷◌, refl, sym, subst}
 use Rattle.std.specs.Prelude.{Result, Ok, Err}
 use Rattle.std.specs.List.{slice_get}
@@ -47,7 +47,7 @@ scrub_stays (Worker w) s k = absurd k
 
 -- ---- registers are corrected
 
--- where a thread runs alone, it does after registers were corrected, and may use all that they name
+-- if a thread runs alone, it does after registers were corrected, and may use all that they name
 pub scrubs_apart : (h g : HeapState) (t : ℕ) → Goes IsScrub h g → IsApart h t → IsApart g t
 scrubs_apart h g t k a = apart_stays h g t (goes_stay IsScrub scrub_stays h g k) (scrubs_phase h g k) a
 
@@ -70,7 +70,7 @@ does_apart answer h g t step (Ok a) e does k =
 does_apart answer h g t step (Err n) e does k =
     subst (λ (x : HeapState). IsApart x t) (sym (step_refused h g step n (outcome h (Thread t) step) does).1) k
 
--- where no checkpoint is open, none of protected pages is
+-- if no checkpoint is open, none of protected pages is
 pub not_protecting : (f : Phase) → is_crossing f ≡ false → is_protect_crossing f ≡ false
 not_protecting ProtectCrossing e = e
 not_protecting MarkCrossing e = refl

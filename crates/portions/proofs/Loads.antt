@@ -1,4 +1,4 @@
--- Whole loads of a thread that runs alone, where no checkpoint is open: they always come to their end.
+-- Complete loads of a thread that runs alone, while no checkpoint is open: they always end.
 use Rattle.std.proofs.Common.{◌≡◌, ◌≢◌, ◌⊎◌, ◌∙◌, ◌<◌, ℕ, Bool, true, false, cond, List, [], ◌∷◌, set, length}
 use Rattle.std.proofs.Common.{◌≤◌, get_or, arith, Option, Some, None, nat_le, refl, sym, subst, ap, inl, inr}
 use Rattle.std.specs.Prelude.{Result, Ok, Err, ◌&&◌, ◌||◌, if◌then◌else◌, is_some}
@@ -164,7 +164,7 @@ and_true : (b : Bool) → (b && true) ≡ false → b ≡ false
 and_true true e = e
 and_true false e = refl
 
--- what has passed these tests is there, and runs
+-- a thread that has passed these tests is there, and runs
 gate_runs : (h : HeapState) (t : ℕ) (step : Step) → begins_load step ≡ true
     → OnAccepted (λ (u : Unit {0}). IsRunning h t) (thread_gate h t step)
 unfolding thread_gate

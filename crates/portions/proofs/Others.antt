@@ -1,5 +1,5 @@
 -- A portion changes no other thread's registers.
-use Rattle.std.proofs.Common.{◌≡◌, ◌≢◌, ◌∙◌, ◌+◌, ℕ, List, [], ◌∷◌, refl, sym, subst, ap, inl, inr, Option, Some, None}
+use Rattle.std.proofs.Common.{◌/◌, ◌≡◌, ◌≢◌, ◌∙◌, ◌+◌, ℕ, List, [], ◌∷◌, refl, sym, subst, inl, inr, Option, Some, None}
 use Rattle.std.specs.Prelude.{Result, Ok, Err}
 use Rattle.std.specs.List.{slice_get}
 use Rattle.layout.specs.declared.shape.Layout.{Layout}
@@ -25,11 +25,12 @@ use Rattle.managed.specs.declared.batches.FieldLoad.{FieldLoad}
 use Rattle.managed.specs.declared.batches.LoadsFault.{LoadsFault}
 use Rattle.managed.specs.Batches.{EndsFilling, EndsLoads, fill_steps, fill_test}
 use Rattle.managed.specs.Collecting.{StandsUnseen}
-use Rattle.managed.specs.Data.{EndsWriting, set_entries}
+use Rattle.managed.specs.Bytes.{EndsWritingBytes}
+use Rattle.managed.specs.Data.{EndsCopying, EndsWriting, set_entries}
 use Rattle.managed.specs.Goings.{EachIs, EndsLoad, Goes, IsInBarrier, IsScrub, LoadsWhole, StandsForSame, Steps}
 use Rattle.managed.specs.Runs.{Runs}
 use Rattle.managed.proofs.Going.{quiet_goes}
-use Rattle.collecting.specs.Filling.{AfterTest, EndsMakingWith, Makes, MakesAndFills}
+use Rattle.collecting.specs.Filling.{AfterTest, EndsMakingWith, MakesAndFills}
 use Rattle.collecting.specs.Rooms.{MakingStands}
 use Rattle.portions.specs.Others.{KeepsOthers, SameOthers}
 use Rattle.portions.specs.Portions.{GoesOn, MutatorState}
@@ -193,6 +194,18 @@ pub writes_kept : (t object j : ℕ) (values : List ℕ) (h g : HeapState) (r : 
 writes_kept t object j values h g (Ok u) k = runs_kept (IsOwn t) t (all_own t) h g (set_entries t object j values)
     (sets_own t object j values) k
 writes_kept t object j values h g (Err e) k = kept_same t h g k.0
+
+pub copies_kept : (t target j source i count : ℕ) (h g : HeapState) (r : Result Unit Refusal)
+    → EndsCopying t target j source i count h r g → KeepsOthers t h g
+copies_kept t target j source i count h g (Ok u) (values, long, reads, runs) =
+    runs_kept (IsOwn t) t (all_own t) h g (set_entries t target j values) (sets_own t target j values) runs
+copies_kept t target j source i count h g (Err e) k = kept_same t h g k.0
+
+pub bytes_kept : (t object at : ℕ) (bytes : List ℕ) (h g : HeapState) (r : Result Unit Refusal)
+    → EndsWritingBytes t object at bytes h r g → KeepsOthers t h g
+bytes_kept t object at bytes h g (Ok u) (old, new, long, reads, is, fits, runs) =
+    runs_kept (IsOwn t) t (all_own t) h g (set_entries t object (at / 8) new) (sets_own t object (at / 8) new) runs
+bytes_kept t object at bytes h g (Err e) k = kept_same t h g k.0
 
 pub making_kept : (t target layout : ℕ) (h g : HeapState) (r : Result ℕ Refusal) → MakingStands t target layout h r g
     → KeepsOthers t h g

@@ -26,14 +26,14 @@ use Rattle.cycle.specs.Mutating.{DoesThread}
 use Rattle.portions.specs.Apart.{IsApart, IsStill, RunsAlone, runs_in}
 use Rattle.portions.proofs.Staying.{AllStay}
 
--- what isn't true is false
+-- a condition that isn't true is false
 pub is_false : (b : Bool) → (b ≡ true → ⊥) → b ≡ false
 is_false true f = absurd (f refl)
 is_false false f = refl
 
 -- ---- what parking a thread changes
 
--- where a thread is parked or runs, the others stay as they are
+-- if a thread is parked or runs, the others stay as they are
 pub record Turns (h : HeapState) (t : ℕ) (b : Bool) (g : HeapState) : Type 0 where
   pub phase : g.phase ≡ h.phase
   pub config : g.config ≡ h.config
@@ -174,7 +174,7 @@ park_stills h g t (Err e) does k = subst IsStill (sym does.1) (record {
   workers = k.runs.workers;
 })
 
--- where all are parked, none runs but thread t
+-- if all are parked, none runs but thread t
 pub still_apart : (h : HeapState) (t : ℕ) → IsStill h → IsApart h t
 still_apart h t k = record {
   phase = k.phase;
@@ -213,7 +213,7 @@ unpark_apart h g t (Err e) does k = subst (λ (x : HeapState). IsApart x t
 
 -- ---- threads that stay
 
--- where all threads stay, the same one runs alone
+-- if all threads stay, the same one runs alone
 pub alone_stays : (h g : HeapState) (t : ℕ) → AllStay h g → RunsAlone h t → RunsAlone g t
 alone_stays h g t s k = record {
   closed = λ u. is_false (is_loading_in (slice_get g.threads u)) (λ e.

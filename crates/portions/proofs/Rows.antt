@@ -1,4 +1,4 @@
--- Rows that neither begin a load nor park a thread or let it run.
+-- Sequences of steps that neither begin a load nor park a thread or let it run.
 use Rattle.std.proofs.Common.{◌≡◌, ◌∙◌, ℕ, zero, suc, ◌+◌, ◌-◌, ◌*◌, Bool, true, false, cond, List, map}
 use Rattle.std.proofs.Common.{length, Option, Some, None, refl, sym, subst, ap, not}
 use Rattle.std.specs.Prelude.{Result, Ok, Err, ◌&&◌, ◌||◌, is_some, nat_lt, nat_le}
@@ -60,7 +60,7 @@ use Rattle.portions.proofs.Staying.{AllKeep, keep_none, keep_same, stays_same}
 abbrev pub Stay : HeapState → Outcome → Type 0
 Stay h o = OnAccepted (λ (z : HeapState × Answer). AllStay h z.0) o
 
--- the same, and the phase is as it was
+-- all threads stay, and the phase is as it was
 abbrev pub Keep : HeapState → Outcome → Type 0
 Keep h o = OnAccepted (λ (z : HeapState × Answer). AllKeep h z.0) o
 
@@ -73,7 +73,7 @@ turns steps.Park = true
 turns steps.Unpark = true
 turns _ = false
 
--- such a step of a thread, but for crossings
+-- such a step of a thread, except crossings
 abbrev pub disturbs : Actor → Step → Bool
 disturbs (Thread t) steps.Cross = false
 disturbs (Thread t) step = turns step

@@ -15,7 +15,7 @@ pub record RunsAlone (h : HeapState) (t : ℕ) : Type 0 where
   pub alone : (u : ℕ) → runs_in (slice_get h.threads u) ≡ true → u ≡ t
   pub workers : 0 < h.config.workers
 
--- the same, and no checkpoint is open
+-- RunsAlone, and no checkpoint is open
 pub record IsApart (h : HeapState) (t : ℕ) : Type 0 where
   pub phase : is_crossing h.phase ≡ false
   pub runs : RunsAlone h t
@@ -32,6 +32,6 @@ pub record IsStillAt (h : HeapState) (u : ℕ) : Type 0 where
   pub closed : is_loading_in (slice_get h.threads u) ≡ false
   pub parked : runs_in (slice_get h.threads u) ≡ false
 
--- all threads are
+-- all threads are still
 abbrev pub AllStill : HeapState → Type 0
 AllStill h = (u : ℕ) → IsStillAt h u

@@ -1,4 +1,4 @@
--- Portions: many steps of one thread, one after another, on a heap that threads share.
+-- Portions: many steps of one thread, one after another, on a shared heap.
 use Rattle.std.specs.Prelude.{◌≡◌, ◌⊎◌, ℕ, Bool, false, slice_get, Result, Ok, Err}
 use Rattle.model.specs.declared.steps.Refusal.{Refusal}
 use Rattle.model.specs.declared.steps.Refusal.TheVariants as refusals
@@ -30,17 +30,18 @@ pub record Begins (t : ℕ) (m : MutatorState) : Type 0 where
   pub thread : m.thread ≡ t
   pub uses : MayUseAll m.heap t
 
--- it is a portion of the same thread, and no other thread's registers have changed
+-- still a portion of the same thread, and no other thread's registers have changed
 pub record GoesOn (old new : MutatorState) : Type 0 where
   pub thread : new.thread ≡ old.thread
   pub others : KeepsOthers old.thread old.heap new.heap
 
--- thread t is kept from no page until others have crossed
+-- no page is kept from thread t until others have crossed
 abbrev pub NeverStalls : HeapState → ℕ → Type 0
 NeverStalls h t = (address : ℕ) → let_through h t address ≡ Err refusals.Stall → ⊥
 
--- what holds at each moment of a portion: only its thread runs, no thread is inside a load, and no checkpoint is open;
--- so the thread never stalls, and no step waits for a thread that hasn't crossed; and the heap keeps its promises
+-- what holds at each moment of a portion: only its thread runs, no thread is inside a load, and no checkpoint is
+-- open; so the thread never stalls, and no step waits for a thread that hasn't crossed; and the heap keeps its
+-- promises
 pub record HoldsInPortion (m : MutatorState) : Type 0 where
   pub apart : IsApart m.heap m.thread
   pub stalls : NeverStalls m.heap m.thread
@@ -51,11 +52,11 @@ pub record HoldsInPortion (m : MutatorState) : Type 0 where
 abbrev pub ThenCrosses : (HeapState → Type 0) → HeapState → Type 0
 ThenCrosses P g = (m : HeapState) × P m × Goes (IsCrossing WORKER) m g
 
--- the same portion goes on, or another one of its thread has begun
+-- the same portion continues, or another one of its thread has begun
 abbrev pub Rests : MutatorState → MutatorState → Type 0
 Rests old new = (new ≡ old) ⊎ (Begins old.thread new × HoldsInPortion new)
 
--- a part of a collection ended so, and what it has done by its stage
+-- a part of a collection ended with this result, and its effect by its stage
 abbrev pub EndsThisPart : ℕ → ℕ → PartsState → HeapState → Result Bool Refusal → PartsState → HeapState → Type 0
 EndsThisPart percent budget old h result new g =
     EndsPart h result g × PartGoesOn percent budget old h result new g

@@ -1,4 +1,4 @@
--- A mutator as contracts see it.
+-- A mutator in contracts.
 use Rattle.portions.specs.Apart.{IsApart}
 use Rattle.portions.specs.Portions.{MutatorState}
 use Rattle.portions.specs.declared.mutator.Mutator.TheInside.{Inside}

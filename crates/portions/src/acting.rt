@@ -1,4 +1,4 @@
-//! The calls of a thread on a heap that threads share.
+//! The calls of a thread on a shared heap.
 
 ghost use Rattle.std.specs.Prelude.{◌≡◌, IfOk, Some, length};
 ghost use Rattle.model.specs.Buffers.{buffer_of_thread};
@@ -9,7 +9,8 @@ ghost use Rattle.cycle.specs.Mutating.{DoesThread, ThreadStands};
 ghost use Rattle.managed.specs.Goings.{LoadsWhole, LoadStands};
 ghost use Rattle.collecting.specs.Objects.{seen};
 ghost use Rattle.managed.specs.Batches.{EndsLoads};
-ghost use Rattle.managed.specs.Data.{EndsReading, EndsWriting};
+ghost use Rattle.managed.specs.Bytes.{EndsReadingBytes, EndsWritingBytes};
+ghost use Rattle.managed.specs.Data.{EndsCopying, EndsReading, EndsWriting};
 ghost use Rattle.collecting.specs.Collections.{Collects, EndsCollecting};
 ghost use Rattle.collecting.specs.Filling.{EndsMakingWith};
 ghost use Rattle.collecting.specs.Rooms.{EndsMaking, EndsRefill, MakingStands};
@@ -181,6 +182,39 @@ impl MutatorCalls for Mutator {
         ensures on { GoesOn self.old self.new }
     {
         self.heap.set_many(self.thread, object, first, values)
+    }
+
+    #[inline(always)]
+    fn copy_data(
+        &mut self,
+        target: u32,
+        first: u32,
+        source: u32,
+        first_of_source: u32,
+        count: usize,
+    ) -> Result<(), Refusal>
+        ensures copies { EndsCopying self.old.thread target first source first_of_source count self.old.heap result
+            self.new.heap }
+        ensures on { GoesOn self.old self.new }
+    {
+        self.heap
+            .copy_data(self.thread, target, first, source, first_of_source, count)
+    }
+
+    #[inline(always)]
+    fn read_bytes(&self, object: u32, offset: u32, bytes: &mut [u8]) -> Result<(), Refusal>
+        ensures len { length bytes.new ≡ length bytes.old }
+        ensures reads { EndsReadingBytes self.now.thread object offset self.now.heap result bytes.new }
+    {
+        self.heap.read_bytes(self.thread, object, offset, bytes)
+    }
+
+    #[inline(always)]
+    fn write_bytes(&mut self, object: u32, offset: u32, bytes: &[u8]) -> Result<(), Refusal>
+        ensures writes { EndsWritingBytes self.old.thread object offset bytes.now self.old.heap result self.new.heap }
+        ensures on { GoesOn self.old self.new }
+    {
+        self.heap.write_bytes(self.thread, object, offset, bytes)
     }
 
     #[inline(always)]

@@ -1,21 +1,22 @@
-//! What a thread does in a portion.
+//! The calls of a thread in a portion.
 
 use collecting::{Collected, Object, Policy};
 use managed::{FieldLoad, LoadsFault};
 use model::{Buffer, Refusal};
 use std::alloc::Global;
 
-/// What a thread does in a portion: the steps of `Mutating` and the calls of `Holding`, without the thread's number.
-/// Registers, fields, indexes, globals and layouts are numbers from 0. Each call is as its contract says on a
-/// `Mutator`; a function that is generic over this trait knows nothing of what it calls, and is proved in short time.
+/// The calls of a thread in a portion: the steps of `Mutating` and the calls of `Holding`, without the thread's
+/// number. Registers, fields, indexes, globals and layouts are numbers from 0. Each call is as its contract says on
+/// a `Mutator`; a function that is generic over this trait depends on none of these contracts, and is proved in
+/// short time.
 ///
-/// In a portion its thread runs, and between two calls neither a load nor a checkpoint is open, as `Mutator::law` says:
-/// so a step of the thread never stalls, and no thread has still to cross.
+/// In a portion its thread runs, and between two calls neither a load nor a checkpoint is open, by `Mutator::law`:
+/// so a step of the thread never stalls, and all threads have crossed.
 pub trait MutatorCalls {
-    /// Takes a buffer, as `Mutating::take`: `Memory` if memory for a fresh page was refused.
+    /// Takes an allocation buffer, as `Mutating::take`: `Memory` if out of memory for a fresh page.
     fn take(&mut self, words: u32) -> Result<Buffer, Refusal>;
 
-    /// Returns the buffer, as `Mutating::give_back`.
+    /// Gives back the buffer, as `Mutating::give_back`.
     fn give_back(&mut self) -> Result<(), Refusal>;
 
     /// Makes an object in the buffer, as `Mutating::new_object`.
@@ -39,10 +40,10 @@ pub trait MutatorCalls {
     /// Writes a data word of an object, as `Mutating::set_datum`.
     fn set_datum(&mut self, object: u32, index: u32, value: u64) -> Result<(), Refusal>;
 
-    /// Whether two registers name the same object, or both none, as `Mutating::same`.
+    /// Returns whether two registers name the same object, or both none, as `Mutating::same`.
     fn same(&self, left: u32, right: u32) -> Result<bool, Refusal>;
 
-    /// Whether a register is null, as `Mutating::is_null`.
+    /// Returns whether a register is null, as `Mutating::is_null`.
     fn is_null(&self, register: u32) -> Result<bool, Refusal>;
 
     /// Copies a register to another one, as `Mutating::copy_register`.
@@ -63,8 +64,24 @@ pub trait MutatorCalls {
     /// Writes data words of an object, from word `first` on, as `Holding::set_many`.
     fn set_many(&mut self, object: u32, first: u32, values: &[u64]) -> Result<(), Refusal>;
 
-    /// Makes an object, with the room that it needs, as `Holding::make`: `Memory` if memory for a fresh page was
-    /// refused. All threads cross the checkpoint that its collection has left open, if there is one.
+    /// Copies data words of one object to another, as `Holding::copy_data`.
+    fn copy_data(
+        &mut self,
+        target: u32,
+        first: u32,
+        source: u32,
+        first_of_source: u32,
+        count: usize,
+    ) -> Result<(), Refusal>;
+
+    /// Reads bytes of an object's data, from byte `offset` on, as `Holding::read_bytes`.
+    fn read_bytes(&self, object: u32, offset: u32, bytes: &mut [u8]) -> Result<(), Refusal>;
+
+    /// Writes bytes of an object's data, from byte `offset` on, as `Holding::write_bytes`.
+    fn write_bytes(&mut self, object: u32, offset: u32, bytes: &[u8]) -> Result<(), Refusal>;
+
+    /// Makes an object, with the space that it needs, as `Holding::make`: `Memory` if out of memory for a fresh
+    /// page. All threads cross the checkpoint that its collection has left open, if there is one.
     fn make(
         &mut self,
         alloc: Global,
@@ -86,8 +103,8 @@ pub trait MutatorCalls {
     ) -> Result<u64, Refusal>;
 
     /// Takes a fresh buffer, for which the heap is collected if frames run low, as `Holding::refill`: `Memory` if
-    /// memory for a fresh page was refused. All threads cross the checkpoint that its collection has left open, if
-    /// there is one.
+    /// out of memory for a fresh page. All threads cross the checkpoint that its collection has left open, if there
+    /// is one.
     fn refill(&mut self, alloc: Global, policy: Policy) -> Result<Buffer, Refusal>;
 
     /// Collects the heap, as `Holding::collect`. All threads cross the checkpoint that it has left open, if
@@ -97,7 +114,7 @@ pub trait MutatorCalls {
     /// Returns how many frames' memory is kept for the next pages, as `Holding::kept_frames`.
     fn kept_frames(&self) -> usize;
 
-    /// Gives memory of free frames back to the allocator, but for that of `most` frames, as `Holding::trim`. Nothing of
-    /// the heap changes.
+    /// Releases the memory of free frames to the allocator, except that of `most` frames, as `Holding::trim`. The
+    /// state of the heap stays.
     fn trim(&mut self, most: usize);
 }

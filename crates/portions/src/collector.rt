@@ -19,7 +19,7 @@ use std::time::{Clock, Duration};
 const PAUSE: u64 = 1;
 
 impl Mutator {
-    /// How many frames are free.
+    /// Returns how many frames are free.
     pub(crate) fn free_frames(&self) -> u32 {
         self.heap.heap().memory().free_frames()
     }
@@ -44,8 +44,8 @@ impl Mutator {
 }
 
 impl Mutator {
-    /// Does the next part of a collection, as `SharedHeap::collect_some`, for a program that has the heap under a lock
-    /// of its own. A portion that hasn't ended ends before.
+    /// Does the next part of a collection, as `SharedHeap::collect_some`, for a program that has the heap under its
+    /// own lock. A portion that hasn't ended ends before.
     pub fn collect_some(
         &mut self,
         alloc: Global,
@@ -61,12 +61,12 @@ impl Mutator {
 }
 
 impl SharedHeap {
-    /// Does the next part of a collection between two portions, as `Holding::collect_some` does it: all threads are
+    /// Does the next part of a collection between two portions, as `Holding::collect_some` does: all threads are
     /// parked meanwhile, so it waits for none of them. A part takes time in proportion to `budget`, the number of
     /// objects that it scans at most. Pages of which at most `percent` words of a hundred are live are emptied.
     /// Returns whether the collection has ended.
     ///
-    /// Fails with `Memory`; another call goes on from there.
+    /// Fails with `Memory`; another call continues from there.
     pub fn collect_some<R: Wait>(
         &self,
         rt: &R,
@@ -109,9 +109,9 @@ impl SharedHeap {
     }
 
     /// Collects between portions until `close` is called, for a thread that does nothing else. A collection begins
-    /// when at most `policy.free` frames are free; it is done in parts as `collect_some` does them. After each part
-    /// threads that wait have the heap. When nothing is due, or memory is refused, the thread sleeps for a
-    /// millisecond. Returns how many collections have ended.
+    /// when at most `policy.free` frames are free; it is done in parts as by `collect_some`. After each part waiting
+    /// threads get the heap. When nothing is due, or it is out of memory, the thread sleeps for a millisecond.
+    /// Returns how many collections have ended.
     pub fn run_collector<R: Wait + Clock>(
         &self,
         rt: &R,

@@ -1,5 +1,5 @@
-//! A heap that threads of the system share: one lock, a seat for each thread, and portions of many steps of a
-//! thread under one hold of the lock.
+//! A heap that system threads share: one lock, a seat for each thread, and portions of many steps of a thread under
+//! one hold of the lock.
 #![tactic(auto)]
 
 mod acting;

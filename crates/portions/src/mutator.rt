@@ -32,7 +32,7 @@ impl Model for Mutator {
 }
 
 impl Mutator {
-    /// A portion of thread 0 in which nothing is done yet.
+    /// Makes a portion of thread 0 in which nothing is done yet.
     pub(crate) fn new(heap: ManagedHeap) -> Mutator
         requires { IsApart heap 0 }
         ensures { result.heap ≡ heap }
@@ -44,7 +44,7 @@ impl Mutator {
         }
     }
 
-    /// Returns the heap alone.
+    /// Returns the heap, without the portion.
     pub fn into_heap(self) -> ManagedHeap
         ensures { result ≡ self.heap }
     {
@@ -63,8 +63,8 @@ impl Mutator {
         self.heap.scrub_all();
     }
 
-    /// Begins a portion of a seat's thread, for a program that has the heap under a lock of its own: the thread runs,
-    /// and its registers name no page that is being emptied, or was. A portion that hasn't ended ends before.
+    /// Begins a portion of a seat's thread, for a program that has the heap under its own lock: the thread runs, and
+    /// its registers name no page that is being emptied, or was. A portion that hasn't ended ends before.
     pub fn enter(&mut self, seat: &mut ThreadSeat)
         ensures begins { Begins seat.old self.new }
         ensures holds { HoldsInPortion self.new }
@@ -94,29 +94,29 @@ impl Mutator {
         rests
     }
 
-    /// Returns the number of the thread whose portion it is, from 0.
+    /// Returns the number of the portion's thread, from 0.
     pub fn thread(&self) -> u32
         ensures { result ≡ self.now.thread }
     {
         self.thread
     }
 
-    /// Returns the heap as it stands, for all that reads it.
+    /// Returns the heap in its current state, for reading.
     pub fn heap(&self) -> &ManagedHeap
         ensures { result.now ≡ self.now.heap }
     {
         &self.heap
     }
 
-    /// Returns a view of the heap as it stands: all of it can be read, by any number of threads that have the heap to
-    /// read it.
+    /// Returns a view of the complete heap in its current state, for any number of threads that have the heap for
+    /// reading.
     pub fn view(&self) -> View<'_>
         ensures { result ≡ self.now.heap }
     {
         View::of(&self.heap)
     }
 
-    /// What holds in a portion. It changes nothing and never fails.
+    /// Proves what holds in a portion. It changes nothing and never fails.
     pub fn law(&self)
         ensures { HoldsInPortion self.now }
     {

@@ -1,4 +1,4 @@
-//! A heap is shared: its threads are parked, and each gets a seat.
+//! Sharing a heap: its threads are parked, and each gets a seat.
 
 ghost use Rattle.std.specs.Prelude.{◌≡◌, None, false, IfOk};
 ghost use Rattle.std.specs.List.{range_with_len};
@@ -15,7 +15,7 @@ use managed::ManagedHeap;
 use model::Refusal;
 use std::alloc::Global;
 
-/// The seats of a heap that is shared.
+/// The seats of a shared heap.
 #[derive(Drop)]
 pub struct Seats {
     /// The seat of each thread of the heap, by their numbers.
@@ -27,13 +27,13 @@ pub struct Seats {
 /// A heap that couldn't be shared, and why.
 #[derive(Drop)]
 pub struct OpenFault {
-    /// The heap. Its threads are parked, but for those that are inside a load.
+    /// The heap. Its threads are parked, except those inside a load.
     pub heap: ManagedHeap,
     /// `Pending` for a thread that is inside a load, `NoActor` if the heap has no worker, and `Memory`.
     pub refusal: Refusal,
 }
 
-/// Whether a thread runs or is inside a load.
+/// Returns whether a thread runs or is inside a load.
 fn is_busy(heap: &Heap, thread: u32) -> bool
     ensures { result ≡ false → IsStillAt heap.now thread }
 {
@@ -44,7 +44,7 @@ fn is_busy(heap: &Heap, thread: u32) -> bool
     }
 }
 
-/// The first thread that runs or is inside a load.
+/// Returns the first thread that runs or is inside a load.
 fn first_busy(heap: &Heap) -> Option<u32>
     ensures { result ≡ None → AllStill heap.now }
 {
@@ -64,7 +64,7 @@ fn park_each(heap: &mut ManagedHeap) {
     }
 }
 
-/// Parks all threads, and has them cross what checkpoint is open.
+/// Parks all threads, and has them cross the open checkpoint, if there is one.
 fn park_all(heap: &mut ManagedHeap) -> Result<(), Refusal>
     ensures { IfOk result (λ _. IsApart heap.new 0) }
 {
@@ -80,7 +80,7 @@ fn park_all(heap: &mut ManagedHeap) -> Result<(), Refusal>
 }
 
 impl Mutator {
-    /// Parks a heap's threads, and makes its seats, for a program that has the heap under a lock of its own; other
+    /// Parks a heap's threads, and makes its seats, for a program that has the heap under its own lock; other
     /// programs share it by `SharedHeap::open`.
     ///
     /// Fails with `Pending` if a thread is inside a load, and with `Memory`; the fault has the heap.

@@ -1,4 +1,4 @@
-//! Seats: who acts for whom.
+//! Seats: access for actors.
 
 ghost use Rattle.std.specs.Prelude.{◌≡◌, IfOk};
 ghost use Rattle.std.specs.List.{range_with_len};
@@ -8,7 +8,7 @@ use std::alloc::{AllocError, Global};
 use std::marker::Model;
 
 /// The seat of a thread of the heap: whoever has it acts for that thread, and nobody else does. A seat is for the
-/// heap that it was opened with.
+/// heap with which it was opened.
 #[derive(Drop)]
 pub struct ThreadSeat {
     pub(crate) thread: u32,
@@ -46,7 +46,7 @@ impl Model for CollectorSeat {
     ghost view = { λ seat. seat.parts };
 }
 
-/// A seat for each thread of a heap, by their numbers.
+/// Makes a seat for each thread of a heap, by their numbers.
 pub(crate) fn thread_seats(alloc: Global, threads: u32) -> Result<Vec<ThreadSeat>, AllocError>
     ensures { IfOk result (λ seats. seats.items ≡ range_with_len 0 threads) }
 {

@@ -14,10 +14,10 @@ use std::sync::atomic::{AtomicBool, AtomicU64, Ordering};
 use std::sync::{RwLock, RwLockReadGuard, RwLockWriteGuard, Wait};
 use std::thread;
 
-/// A thread that hands the heap on lets others run up to so often, until one of them has it.
+/// How often a thread that hands the heap on yields, at most, until another one has it.
 const MOST_YIELDS: u32 = 1000;
 
-/// A heap that threads of the system share: one of them has it at a time, for a portion of many steps.
+/// A heap that system threads share: one of them has it at a time, for a portion of many steps.
 #[derive(Drop)]
 pub struct SharedHeap {
     desk: RwLock<Mutator>,
@@ -28,7 +28,7 @@ pub struct SharedHeap {
 }
 
 impl SharedHeap {
-    /// A heap that is shared, of which a portion lasts for at least `rests` rests while others want it.
+    /// Makes a shared heap, of which a portion lasts for at least `rests` rests while others want it.
     pub(crate) fn with_mutator(mutator: Mutator, rests: u32) -> SharedHeap {
         SharedHeap {
             desk: RwLock::new(mutator),
@@ -39,7 +39,7 @@ impl SharedHeap {
         }
     }
 
-    /// Returns the heap, which nobody shares any more.
+    /// Returns the heap, which is no longer shared.
     pub fn into_heap(self) -> ManagedHeap
         ensures { Promises result }
     {
@@ -48,7 +48,7 @@ impl SharedHeap {
         heap
     }
 
-    /// Whether a thread waits for the heap.
+    /// Returns whether a thread waits for the heap.
     pub fn is_wanted(&self) -> bool {
         self.wanted.load(Ordering::SeqCst) > 0
     }
@@ -58,7 +58,7 @@ impl SharedHeap {
         self.closed.store(true, Ordering::SeqCst);
     }
 
-    /// Whether `close` was called.
+    /// Returns whether `close` was called.
     pub fn is_closed(&self) -> bool {
         self.closed.load(Ordering::SeqCst)
     }
@@ -71,9 +71,9 @@ impl SharedHeap {
         desk
     }
 
-    /// Waits until no portion goes on, and returns the heap for reading: `Mutator::view` shows all of it. Threads that
-    /// read have the heap at the same time, and no portion begins until all their guards are dropped. In a portion
-    /// never call this, and while reading never wait for another thread.
+    /// Waits until no portion is open, and returns the heap for reading: `Mutator::view` reads all of it. Threads
+    /// that read have the heap at the same time, and no portion begins until all their guards are dropped. Never
+    /// call this in a portion, and never wait for another thread while reading.
     pub fn read<'a, R: Wait>(&'a self, rt: &R) -> RwLockReadGuard<'a, Mutator>
         ensures { HoldsInPortion (read_guard_value result) }
     {
@@ -84,7 +84,7 @@ impl SharedHeap {
         desk
     }
 
-    /// Begins a portion of a seat's thread, which waits for the heap until it is free. The portion ends by `leave`, or
+    /// Begins a portion of a seat's thread, after waiting until the heap is free. The portion ends by `leave`, or
     /// when the guard is dropped. Never wait for another thread in a portion.
     pub fn enter<'a, R: Wait>(
         &'a self,
@@ -108,10 +108,10 @@ impl SharedHeap {
         desk
     }
 
-    /// A safepoint. If another thread waits for the heap, and the portion has lasted for as many rests as `open` was
-    /// told, the portion ends, others have the heap, and another portion of the same thread begins. So it does if few
-    /// frames are free while a collector's thread runs: the thread then waits until that has freed some. Else the
-    /// portion goes on as it is.
+    /// A safepoint. If another thread waits for the heap, and the portion has lasted for the `rests` of `open`, the
+    /// portion ends, others get the heap, and another portion of the same thread begins. So it does if few frames
+    /// are free while a collector's thread runs: the thread then waits until that has freed some. Otherwise the
+    /// portion continues.
     pub fn rest<'a, R: Wait>(
         &'a self,
         rt: &R,
@@ -130,8 +130,8 @@ impl SharedHeap {
         self.hand_on(rt, portion, is_low)
     }
 
-    /// Ends a portion, lets others have the heap, or if it is low the collector free some of it, and begins another
-    /// portion of the same thread.
+    /// Ends a portion, lets others have the heap, or the collector if frames are low, and begins another portion of
+    /// the same thread.
     fn hand_on<'a, R: Wait>(
         &'a self,
         rt: &R,
@@ -153,7 +153,7 @@ impl SharedHeap {
         self.begin(rt, thread)
     }
 
-    /// Lets other threads run until one that waits has the heap, or up to 1,000 times.
+    /// Yields until a waiting thread has the heap, or up to 1,000 times.
     pub(crate) fn give_way(&self) {
         for _ in 0..MOST_YIELDS {
             if !self.is_wanted() {
@@ -163,14 +163,14 @@ impl SharedHeap {
         }
     }
 
-    /// Ends a portion: its thread is parked, and others may have the heap. A guard that is dropped does the same, but
-    /// that its thread is parked when the next portion begins.
+    /// Ends a portion: its thread is parked, and others may have the heap. Dropping the guard does the same, but the
+    /// thread is parked only when the next portion begins.
     pub fn leave(portion: RwLockWriteGuard<'_, Mutator>) {
         let mut desk = portion;
         desk.leave();
     }
 
-    /// Does a portion of a seat's thread: what `f` does.
+    /// Runs `f` in a portion of a seat's thread.
     pub fn with<R: Wait, T, F: FnOnce(&mut Mutator) -> T>(
         &self,
         rt: &R,
@@ -187,7 +187,7 @@ impl SharedHeap {
     }
 }
 
-/// A portion on a mutator that is lent.
+/// Runs `f` in a portion of a borrowed mutator.
 fn run<T, F: FnOnce(&mut Mutator) -> T>(mutator: &mut Mutator, thread: u32, f: F) -> T
     requires { (m : MutatorState) → Begins thread m → HoldsInPortion m → FnOnceTakesAtMut F.FnOnce f m }
     ensures { (m n : MutatorState) × Begins thread m × HoldsInPortion m × HoldsInPortion n

@@ -1,5 +1,5 @@
--- What is to hold of an accepted outcome, by combinators that mirror the `do` of a row: each opens its first line, and
--- hands on what that line found or tested.
+-- Properties of accepted outcomes, by combinators that mirror the `do` of an outcome: each opens its first line, and
+-- passes on what that line found or tested.
 use Rattle.std.proofs.Common.{◌≡◌, Bool, true, false, cond, Option, Some, None, refl, subst}
 use Rattle.std.specs.Prelude.{Result, Ok, Err}
 use Rattle.model.specs.declared.steps.Refusal.{Refusal}
@@ -9,12 +9,12 @@ use Rattle.model.proofs.Results.{same_result}
 abbrev pub accepted : {A : Type 0} → A → Result A Refusal
 accepted x = Ok x
 
--- this holds of what was accepted; of a refusal nothing is said
+-- a property of an accepted value; it says nothing about an error
 abbrev pub OnAccepted : {A : Type 0} → (A → Type 0) → Result A Refusal → Type 0
 OnAccepted P (Ok x) = P x
 OnAccepted P (Err n) = Unit {0}
 
--- what is accepted in full has it
+-- a value that is accepted has the property
 pub of_accepted : {A : Type 0} (P : A → Type 0) (r : Result A Refusal) (x : A) → OnAccepted P r → r ≡ accepted x → P x
 of_accepted P (Ok y) x h e = subst P (same_result y x e) h
 of_accepted P (Err n) x h e = absurd (cc)
@@ -25,7 +25,7 @@ pub on_bind : {A B : Type 0} (r : Result A Refusal) (f : A → Result B Refusal)
 on_bind (Ok x) f P h = h x refl
 on_bind (Err n) f P h = tt
 
--- x ← r, where what r accepts has Q
+-- x ← r, if each value that r accepts has Q
 pub on_has : {A B : Type 0} (r : Result A Refusal) (f : A → Result B Refusal) (Q : A → Type 0) (P : B → Type 0)
     → OnAccepted Q r → ((x : A) → Q x → OnAccepted P (f x)) → OnAccepted P (r >>= f)
 on_has (Ok x) f Q P q h = h x q
@@ -55,7 +55,7 @@ pub on_either : {B : Type 0} (c : Bool) (r q : Result B Refusal) (P : B → Type
 on_either true r q P h k = h refl
 on_either false r q P h k = k refl
 
--- what has P has Q
+-- if P implies Q, accepted values with P have Q
 pub on_accepted : {A : Type 0} (r : Result A Refusal) (P Q : A → Type 0) → OnAccepted P r → ((x : A) → P x → Q x)
     → OnAccepted Q r
 on_accepted (Ok x) P Q h f = f x h

@@ -1,4 +1,4 @@
--- The first heap stands for the first plain heap.
+-- The first heap represents the first reference model.
 use Rattle.std.proofs.Common.{nat_lt, ◌≡◌, ◌≢◌, ◌⊎◌, inl, inr, ℕ, zero, suc, ◌-◌, ◌/◌, ◌%◌, Bool, false, List}
 use Rattle.std.proofs.Common.{[], length, get_or, replicate, Option, Some, None, refl, sym, ◌∙◌, ap, subst}
 use mathlib.Core.Path.{fun_ext}
@@ -37,7 +37,7 @@ use Rattle.refinement.specs.Roots.{HoldsWords}
 use Rattle.refinement.specs.Standing.{Holds}
 use Rattle.refinement.proofs.Carrying.{moved}
 
--- what is read of equal elements
+-- a read of a list of equal elements
 read_of : {X B : Type 0} (P : Option X → B) (n : ℕ) (x : X) → P None ≡ P (Some x) → (i : ℕ)
     → P (slice_get (replicate n x) i) ≡ P (Some x)
 read_of P zero x e i = e

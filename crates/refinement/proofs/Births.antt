@@ -1,4 +1,4 @@
--- A step that makes an object.
+-- A step that allocates an object.
 use Rattle.std.proofs.Common.{◌≡◌, ℕ, ◌+◌, ◌<◌, Option, Some, None, refl, sym, ◌∙◌, ap, subst, arith, zero, suc, ◌-◌}
 use Rattle.std.proofs.Common.{◌*◌, ◌≤◌, nat_lt, nat_le, replicate, get_or}
 use Rattle.std.specs.List.{slice_get}
@@ -48,7 +48,7 @@ lies_of None b e f = absurd (cc)
 lies_of {s} (Some c) b e f = subst (LiesIn s) (same_Some _ _ e) f
 
 module _ {h : HeapState} {p p0 : PlainHeap} (s : IsStore h.store) (d : IsHeap h) (k : Holds h p p0) (t : ℕ) where
-  -- where an object is made, it may be
+  -- the conditions of making an object hold
   may_place : (r number : ℕ) (g : Passed h t (steps.New r number)) (b : Buffer) (l : Layout)
       → buffer_of_thread h t ≡ Some b → slice_get h.config.layouts number ≡ Some l
       → size_of l ≤ b.end - b.next → h.births < h.config.births → births.MayPlace h t r number l b g.thread
@@ -72,7 +72,7 @@ module _ {h : HeapState} {p p0 : PlainHeap} (s : IsStore h.store) (d : IsHeap h)
       open_or_from : Open ≡ From → ⊥
       open_or_from e = cc
 
-  -- and the laws let it be born
+  -- the laws allow its birth
   may_be_born : (r number : ℕ) (g : Passed h t (steps.New r number)) (b : Buffer) (l : Layout)
       → births.MayPlace h t r number l b g.thread
       → MayBeBorn (world_of h) (b.page * h.store.words + b.next) (new_object h.births number l) t number
@@ -90,7 +90,7 @@ module _ {h : HeapState} {p p0 : PlainHeap} (s : IsStore h.store) (d : IsHeap h)
     barrier = closed_barrier g refl;
   }
 
-  -- an object is made
+  -- an object is allocated
   pub new_holds : (r number : ℕ) → Passed h t (steps.New r number)
       → RowHolds h p p0 (Thread t) (steps.New r number) (new_outcome h t r number)
   unfolding new_outcome plain_step plain_answer

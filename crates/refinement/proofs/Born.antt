@@ -1,4 +1,4 @@
--- An object that is made in a buffer is born.
+-- The birth of an object that is made in a buffer.
 use Rattle.std.proofs.Common.{◌≡◌, ◌≢◌, ◌⊎◌, inl, inr, ℕ, suc, ◌+◌, ◌-◌, ◌*◌, ◌/◌, ◌%◌, ◌^◌, ◌<◌, ◌≤◌, Bool, true}
 use Rattle.std.proofs.Common.{List, length, Option, Some, None, refl, sym, ◌∙◌, ap, ap₂, subst, arith, div-add-mod'}
 use Rattle.std.proofs.Common.{replicate}
@@ -52,7 +52,7 @@ unfolding state_at
 open_at h b lies low = ap (state_at h.store) (div-mul-add b.page h.store.words b.next low)
     ∙ open_state (state_in (page_at h.store b.page)) lies.page
 
--- what holds where an object is made in a buffer
+-- the conditions under which an object is made in a buffer
 pub record MayPlace (h : HeapState) (t target number : ℕ) (shape : Layout) (b : Buffer) (x : ThreadState) : Type 0 where
   pub thread : slice_get h.threads t ≡ Some x
   pub buffer : x.buffer ≡ Some b
@@ -132,12 +132,12 @@ module _ {h : HeapState} (s : IsStore h.store) (l : IsLaid h) {t target number :
   buffer_had = ap (λ o. option_map (buffer_extent h.store.words) (buffer_in o)) m.thread
       ∙ ap (option_map (buffer_extent h.store.words)) m.buffer
 
-  -- what another claim has is apart from the buffer
+  -- the extent of another claim is apart from the buffer
   clear : (c : Claim) (y : Extent) → c ≢ OfBuffer t → extent h c ≡ Some y → AreApart y (buffer_extent h.store.words b)
   clear c y d e =
       elim (l.apart c (OfBuffer t) y (buffer_extent h.store.words b) e buffer_had) [ inl k ↦ absurd (d k) | inr k ↦ k ]
 
-  -- no object stands there yet
+  -- no object is there yet
   pub place_free : object_at h address ≡ None
   place_free = by_object (object_at h address) refl
     where
@@ -148,7 +148,7 @@ module _ {h : HeapState} (s : IsStore h.store) (l : IsLaid h) {t target number :
         | inr k ↦ omega (arith, k, m.room)
       ])
 
-  -- and none will be copied there
+  -- no object will be copied there
   pub unplanned_place : SoundObjects (world_of h) → (y : ℕ) → (world_of h).side_entry y ≢ Planned address
   unplanned_place o y e =
       let (q, is) = o.planned_object y address e in
@@ -219,7 +219,7 @@ module _ {h : HeapState} (s : IsStore h.store) (l : IsLaid h) {t target number :
   unfolding place_object with_words
   born_objects y = rewritten h starts b.page address change fresh s rewrites y
 
-  -- the heap by addresses has one more birth
+  -- the address-level model has one more birth
   born_world : world_of after ≡ add_object address fresh t target (world_of h)
   unfolding place_object with_words state_at page_at register_of
   born_world = λ z. record (world_of h) {
@@ -240,7 +240,7 @@ module _ {h : HeapState} (s : IsStore h.store) (l : IsLaid h) {t target number :
       one : (n : ℕ) → n + 1 ≡ suc n
       one n = omega arith
 
-  -- what is left of the buffer
+  -- the rest of the buffer
   abbrev rest : Buffer
   rest = used_buffer b (size_of shape)
 
@@ -353,7 +353,7 @@ module _ {h : HeapState} (s : IsStore h.store) (l : IsLaid h) {t target number :
       go (inl d) = absurd (m.unplanned n (ap (world_of h).side_entry (sym d.0) ∙ k))
       go (inr d) = l.planned y n o k d.1
 
-  -- and memory is in order
+  -- memory is in order
   born_laid : IsLaid after
   unfolding place_object with_words state_at page_at register_of
   born_laid = record {

@@ -37,7 +37,7 @@ use Rattle.refinement.proofs.Opened.{MayOpen, opened_heap, opened_world, opened_
 use Rattle.refinement.proofs.Verdicts.{Passed, first_false, second_false}
 use Rattle.refinement.proofs.Threads.{given_back_carries}
 
--- what each element has, and the last of two that are put in one place
+-- a property of each element, and of the last of two that are written to one index
 pub each_set_again : {X : Type 0} (P : X → Type 0) (xs : List X) (i : ℕ) (v w : X) → Each xs P → P w
     → Each (set (set xs i v) i w) P
 each_set_again P xs i v w h q j y e = go (get_set (set xs i v) i j w y e)
@@ -46,7 +46,7 @@ each_set_again P xs i v w h q j y e = go (get_set (set xs i v) i j w y e)
     go (inl (a, b)) = subst P b q
     go (inr (a, b)) = h j y (sym (get_set_other xs i j v a) ∙ b)
 
--- rows stay where the buffer isn't the first of its page
+-- bitmaps stay if the buffer isn't the first of its page
 same_rows : (words : ℕ) (b : Buffer) (rows : List (List Bool)) → 0 < b.next → opened_rows words b rows ≡ rows
 same_rows words b rows low =
     ap (λ c. cond c (set rows (b.page - 1) (replicate words false)) rows) (ne_eqb b.next 0
@@ -107,7 +107,7 @@ fresh_carries {h = h} s d l o m {i = i} {f = f} {q = q} w t n x at had low room 
       world = c.world ∙ opened_world s d.buffers l o m w;
     }
 
--- what the store gave out goes to the thread
+-- the thread gets what the store gave out
 on_took : (h : HeapState) (t : ℕ) (r : Result (StoreState × Buffer) Room) (P : HeapState × Answer → Type 0)
     → ((z : StoreState × Buffer) → r ≡ Ok z → P (lend_buffer h t z.0 z.1, answers.Lent z.1.page z.1.next))
     → OnAccepted P (take_result h t r)

@@ -1,11 +1,11 @@
--- What an edit does to all that is kept of a heap, and the step that it makes.
+-- The effect of an edit on the invariant of a heap, and the step that it makes.
 --
--- Letters, here and in the files of rows. h is a heap's state, and g the one after an edit. p is a plain heap, q the
--- one after a step, and p0 the one as the last mark began; b is births as the laws speak of them, and e an edit of the
--- heap by addresses. k says that h stands for p and p0, s that its store is one, d that it is a heap, l that its memory
--- is in order. In a row t is the thread, x its record, and g what the step has passed before; r, o and q are registers,
--- a is an address, i the index of a reference and j that of a datum, n where a word stands or which global, v what is
--- written.
+-- Letters, here and in the files of steps: h is a heap's state, and g the one after an edit. p is a reference model,
+-- q the one after a step, and p0 the one when the last mark started; b is births in the laws' terms, and e an edit of
+-- the address-level model. k is the proof that h represents p and p0, s that its store has its invariant, d that the
+-- heap has its own, l that its memory is in order. In a step t is the thread, x its record, and g what the step has
+-- passed before; r, o and q are registers, a is an address, i the index of a reference and j that of a datum, n the
+-- place of a word or a global, v what is written.
 use Rattle.std.proofs.Common.{◌≡◌, ℕ, length, refl, sym, ◌∙◌, ap, subst}
 use Rattle.model.specs.declared.config.Config.{Config}
 use Rattle.model.specs.declared.steps.Actor.{Actor}
@@ -30,7 +30,7 @@ use Rattle.refinement.specs.Standing.{Holds, StepHolds, AnswersPlain, kept_at_ma
 use Rattle.refinement.proofs.Accepted.{OnAccepted}
 use Rattle.model.proofs.Tables.{length_changed}
 
--- g has the configuration of h, and as much of everything
+-- g has the configuration and the sizes of h
 pub record IsAlike (h g : HeapState) : Type 0 where
   pub config : g.config ≡ h.config
   pub words : g.store.words ≡ h.store.words
@@ -64,7 +64,7 @@ has_roots a k = record {
   globals = k.globals ∙ sym a.globals;
 }
 
--- where h is kept, g is, and the heap by addresses of g is that of h with the edit e
+-- if h has its invariants, g has them, and the address-level model of g is that of h after the edit e
 pub record Carries (h g : HeapState) (e : AddressHeap → AddressHeap) : Type 0 where
   pub size : IsAlike h g
   pub laid : IsLaid h → IsLaid g
@@ -72,16 +72,16 @@ pub record Carries (h g : HeapState) (e : AddressHeap → AddressHeap) : Type 0 
   pub words : HasWords h → HasWords g
   pub world : world_of g ≡ e (world_of h)
 
--- the plain heap q has the roots that p has, and is the births b
+-- the reference model q has the roots that p has, and has the births b
 pub record Follows (h : HeapState) (p q : PlainHeap) (b : BirthHeap) : Type 0 where
   pub roots : HasRootsOf h p → HasRootsOf h q
   pub births : births_of q ≡ b
 
--- a plain heap that stays
+-- a reference model that stays
 pub stays : (h : HeapState) (p : PlainHeap) → Follows h p p (births_of p)
 stays h p = record { roots = λ r. r; births = refl }
 
--- the same births, said in another way
+-- the same births in another form
 pub agrees : {h : HeapState} {p q : PlainHeap} {b c : BirthHeap} → Follows h p q b → b ≡ c → Follows h p q c
 agrees f same = record { roots = f.roots; births = f.births ∙ same }
 
@@ -95,7 +95,7 @@ same_carries h = record {
   world = refl;
 }
 
--- the same edit, said in another way
+-- the same edit in another form
 pub becomes : {h g : HeapState} {e : AddressHeap → AddressHeap} (c : Carries h g e)
     (f : AddressHeap → AddressHeap) → e (world_of h) ≡ f (world_of h) → Carries h g f
 becomes c f same =
@@ -120,7 +120,7 @@ and_then {f = f} c d = record {
   world = d.world ∙ ap f c.world;
 }
 
--- an edit of one thread, said of its record
+-- an edit of one thread, by an edit of its record
 pub thread_carries : (h : HeapState) (t : ℕ) (f : ThreadState → ThreadState) (e : AddressHeap → AddressHeap)
     → (IsLaid h → IsLaid (record h { threads = change_at h.threads t f }))
     → ((y : ThreadState) → HoldsWords h.config.registers y → HoldsWords h.config.registers (f y))
@@ -141,11 +141,11 @@ thread_carries h t f e laid words world = record {
   world = world;
 }
 
--- the invariant of other heaps that are these
+-- the invariant of equal models
 pub moved : (w v : AddressHeap) (p q p0 : BirthHeap) → v ≡ w → q ≡ p → Invariant w p p0 → Invariant v q p0
 moved w v p q p0 e f i = subst (λ x. Invariant x q p0) (sym e) (subst (λ x. Invariant w x p0) (sym f) i)
 
--- an edit that the heap by addresses doesn't see
+-- an edit that the address-level model doesn't see
 pub unseen : {h g : HeapState} {p p0 : PlainHeap} → Carries h g (λ w. w) → Holds h p p0 → Holds g p p0
 unseen {p = p} {p0 = p0} c k = record {
   sizes = has_sizes c.size k.sizes;
@@ -169,7 +169,7 @@ step_by {h = h} {e = e} {p = p} {p0 = p0} {q = q} {q0 = q0} k c f step = record 
   invariant = moved _ _ _ _ (births_of q0) c.world f.births (transition_keeps _ _ _ _ _ _ k.invariant step);
 }
 
--- a row keeps what stands
+-- an outcome keeps that the heap represents a reference model
 abbrev pub RowHolds : HeapState → PlainHeap → PlainHeap → Actor → Step → Outcome → Type 0
 RowHolds h p p0 actor step o = OnAccepted (λ (z : HeapState × Answer). StepHolds h p p0 actor step z.0 z.1) o
 
@@ -181,7 +181,7 @@ pub row_by : {h g : HeapState} {e : AddressHeap → AddressHeap} {p p0 : PlainHe
     → AnswersPlain (plain_answer p actor step) answer → StepHolds h p p0 actor step g answer
 row_by k c f step a = record { config = c.size.config; holds = step_by k c f step; answers = a }
 
--- a step whose edit the heap by addresses doesn't see, and that leaves the plain heap
+-- a step whose edit the address-level model doesn't see, and that leaves the reference model
 pub unseen_by : {h g : HeapState} {p p0 : PlainHeap} {actor : Actor} {step : Step} {answer : Answer}
     → Holds h (plain_step h.config.layouts p actor step) (kept_at_mark p p0 step) → Carries h g (λ w. w)
     → AnswersPlain (plain_answer p actor step) answer → StepHolds h p p0 actor step g answer

@@ -1,4 +1,4 @@
--- One element of a list is changed: threads, and the bits of rows.
+-- One element of a list is changed: threads, and the bits of bitmaps.
 use Rattle.std.proofs.Common.{◌≡◌, ◌≢◌, ◌⊎◌, inl, inr, ℕ, zero, suc, ◌+◌, ◌*◌, ◌/◌, ◌%◌, ◌<◌, ◌≤◌, Bool, false, List}
 use Rattle.std.proofs.Common.{[], ◌∷◌, length, get_or, set, replicate, Option, Some, None, refl, sym, ◌∙◌, ap, ap₂}
 use Rattle.std.proofs.Common.{arith, div-add-mod'}
@@ -17,7 +17,7 @@ use Rattle.model.specs.Bits.{of_page, bit_at}
 use Rattle.model.specs.Threads.{register_in}
 use Rattle.refinement.specs.Worlds.{as_word}
 
--- what is read of a list with one element changed
+-- a read of a list with one element changed
 pub get_changed : {X : Type 0} (xs : List X) (t : ℕ) (f : X → X) (u : ℕ)
     → slice_get (change_at xs t f) u ≡ put (slice_get xs) t (option_map f (slice_get xs t)) u
 get_changed {X} xs t f u = go (slice_get xs t) refl
@@ -28,7 +28,7 @@ get_changed {X} xs t f u = go (slice_get xs t) refl
     go (Some x) e = put_all (λ v y. slice_get (set xs t (f x)) v ≡ y) (slice_get xs) t (Some (f x))
         (get_set_same xs t x (f x) e) (λ v d. get_set_other xs t v (f x) d) u
 
--- what a change leaves of every element
+-- a property of every element that a change keeps
 pub kept_of : {X B : Type 0} (P : Option X → B) (xs : List X) (t : ℕ) (f : X → X)
     → ((x : X) → P (Some (f x)) ≡ P (Some x)) → (u : ℕ) → P (slice_get (change_at xs t f) u) ≡ P (slice_get xs u)
 kept_of {X} P xs t f h u = ap P (get_changed xs t f u) ∙ put_all (λ v y. P y ≡ P (slice_get xs v)) (slice_get xs) t
@@ -38,7 +38,7 @@ kept_of {X} P xs t f h u = ap P (get_changed xs t f u) ∙ put_all (λ v y. P y 
     here None = refl
     here (Some x) = h x
 
--- what is read of the changed element, and of the others
+-- reads of the changed element, and of the others
 pub read_changed : {X B : Type 0} (P : Option X → B) (xs : List X) (t : ℕ) (f : X → X) (x : X) (v : B)
     → slice_get xs t ≡ Some x → P (Some (f x)) ≡ v → (u : ℕ)
     → P (slice_get (change_at xs t f) u) ≡ put (λ w. P (slice_get xs w)) t v u
@@ -49,7 +49,7 @@ read_changed {X} P xs t f x v e k u = ap P (get_changed xs t f u) ∙ put_all (�
     now : Option X
     now = option_map f (slice_get xs t)
 
--- what is read of a changed element was there
+-- a value that is read after the change was there before, if that holds for the changed element
 pub was_read : {X B : Type 0} (P : Option X → Option B) (xs : List X) (t : ℕ) (f : X → X)
     → ((x : X) (y : B) → P (Some (f x)) ≡ Some y → P (Some x) ≡ Some y) → (u : ℕ) (y : B)
     → P (slice_get (change_at xs t f) u) ≡ Some y → P (slice_get xs u) ≡ Some y
@@ -60,9 +60,9 @@ was_read {X} P xs t f h u y e = put_all (λ v o. P o ≡ Some y → P (slice_get
     here None k = k
     here (Some x) k = h x y k
 
--- rows
+-- bitmaps
 
--- the list of a page, as what is read of a list of them
+-- the list of a page, as a read of a list of them
 abbrev pub list_of : {X : Type 0} → Option (List X) → List X
 list_of None = []
 list_of (Some xs) = xs
@@ -72,7 +72,7 @@ list_read [] i = refl
 list_read (x ∷ xs) zero = refl
 list_read (x ∷ xs) (suc i) = list_read xs i
 
--- what the pages have, with that of one changed
+-- the lists of pages, of which one was changed
 pub page_changed : {X : Type 0} (rows : List (List X)) (i : ℕ) (f : List X → List X) (row : List X)
     → slice_get rows i ≡ Some row → (m : ℕ) → of_page (change_at rows i f) m ≡ put (of_page rows) (suc i) (f row) m
 page_changed rows i f row e =
@@ -152,12 +152,12 @@ blank_bit zero i = refl
 blank_bit (suc n) zero = refl
 blank_bit (suc n) (suc i) = blank_bit n i
 
--- a row is cleared
+-- a bitmap is cleared
 placed_as : (rows : List (List Bool)) (i : ℕ) (row new : List Bool) → slice_get rows i ≡ Some row
     → change_at rows i (λ r. new) ≡ set rows i new
 placed_as rows i row new e = ap (λ o. change_found rows i o (λ r. new)) e
 
--- a page that got a new row has no bit there, and other pages have theirs
+-- a page that got a new bitmap has no bit there, and other pages have theirs
 pub new_here : (w n : ℕ) (rows : List (List Bool)) (i : ℕ) (row : List Bool) (x : ℕ) → slice_get rows i ≡ Some row
     → x / w ≡ suc i → bit_at (set rows i (replicate n false)) w x ≡ false
 new_here w n rows i row x e q = ap (λ rs. bit_at rs w x) (sym (placed_as rows i row (replicate n false) e))
@@ -171,7 +171,7 @@ new_other w n rows i row x e q = ap (λ rs. bit_at rs w x) (sym (placed_as rows 
     ∙ ap (λ r. get_or r (x % w) false) (page_changed rows i (λ r. replicate n false) row e (x / w)
     ∙ put_other (of_page rows) (suc i) (replicate n false) (x / w) q)
 
--- the registers of threads, of which one has its register r changed
+-- the registers of threads after register r of one changed
 pub register_changed :
     (ts : List ThreadState) (t r : ℕ) (w : Reference) (f : ThreadState → ThreadState) (x : ThreadState)
     → slice_get ts t ≡ Some x → r < length x.registers → (f x).registers ≡ set x.registers r w

@@ -1,4 +1,4 @@
--- Threads that cross checkpoints, that are parked and run again.
+-- Threads that cross checkpoints, that are parked, and that run again.
 use Rattle.std.proofs.Common.{◌≡◌, ℕ, true, false, not, ◌<◌, length, refl}
 use Rattle.std.specs.List.{slice_get}
 use Rattle.std.proofs.lemmas.Bool.{not-false}
@@ -23,7 +23,7 @@ use Rattle.refinement.proofs.Crossings.{thread_crosses}
 use Rattle.refinement.proofs.Threads.{parked_carries}
 use Rattle.refinement.proofs.Verdicts.{Passed, closed_barrier}
 
--- a checkpoint is open, where a thread may cross one
+-- a checkpoint is open if a thread may cross one
 pub is_open : (h : HeapState) (t : ℕ) → OnAccepted (λ (u : Unit {0}). is_crossing h.phase ≡ true) (may_cross h t)
 unfolding may_cross
 is_open h t = on_test (not (is_crossing h.phase)) _ _ _ (λ e. on_test (has_crossed (slice_get h.threads t)) _ _ _

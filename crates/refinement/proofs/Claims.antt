@@ -1,4 +1,4 @@
--- What no two claims overlapping says of objects, and where a claim is split.
+-- Consequences of claims that don't overlap, and a claim that is split.
 use Rattle.std.proofs.Common.{◌≡◌, ◌≢◌, ◌⊎◌, inl, inr, ℕ, ◌+◌, ◌*◌, ◌/◌, ◌%◌, ◌<◌, ◌≤◌}
 use Rattle.std.proofs.Common.{Option, Some, None, sym, ◌∙◌, ap, arith, div-add-mod'}
 use Rattle.std.specs.Option.{option_map}
@@ -40,7 +40,7 @@ objects_apart h x a o q apart e f d page =
     go (inr (inl l)) = inl (omega (arith, l, base, div-add-mod' x h.store.words, div-add-mod' a h.store.words))
     go (inr (inr l)) = inr (omega (arith, l, base, div-add-mod' x h.store.words, div-add-mod' a h.store.words))
 
--- where all extents stay, no two overlap
+-- if all extents stay, no two overlap
 pub extents_same : (e f : Claim → Option Extent) → Apart e → ((c : Claim) → f c ≡ e c) → Apart f
 extents_same e f a same c d x y k l = a c d x y (sym (same c) ∙ k) (sym (same d) ∙ l)
 
@@ -49,7 +49,7 @@ pub record Within (x y : Extent) : Type 0 where
   pub from : y.from ≤ x.from
   pub upto : x.upto ≤ y.upto
 
--- where each claim has a part of what it had, no two overlap
+-- if each claim has a part of what it had, no two overlap
 pub shrunk_apart : (e f : Claim → Option Extent) → Apart e
     → ((c : Claim) (y : Extent) → f c ≡ Some y → (x : Extent) × (e c ≡ Some x) × Within y x) → Apart f
 shrunk_apart e f a shrinks c d x y h k =
@@ -63,7 +63,7 @@ shrunk_apart e f a shrinks c d x y h k =
       ])
     ]
 
--- claim c had a whole extent, of which it and d now have parts, and no other claim changes
+-- claim c had a full extent, of which it and d now have parts, and no other claim changes
 pub record Splits (e f : Claim → Option Extent) (c d : Claim) : Type 0 where
   pub whole : Extent
   pub had : e c ≡ Some whole
@@ -74,7 +74,7 @@ pub record Splits (e f : Claim → Option Extent) (c d : Claim) : Type 0 where
   pub others : (u : Claim) → (u ≡ c) ⊎ (u ≡ d) ⊎ (f u ≡ e u)
 
 module _ (e f : Claim → Option Extent) (a : Apart e) (c d : Claim) (s : Splits e f c d) where
-  -- a part of what c had is apart from what another had
+  -- a part of c's old extent is apart from another's
   far : (x y : Extent) (u : Claim) → Within x s.whole → e u ≡ Some y → (c ≡ u) ⊎ AreApart x y
   far x y u h k = go (a c u s.whole y s.had k)
     where
@@ -87,7 +87,7 @@ module _ (e f : Claim → Option Extent) (a : Apart e) (c d : Claim) (s : Splits
   swap x y (inl h) = inr h
   swap x y (inr h) = inl h
 
-  -- what c or d has now, and what another has
+  -- the new extent of c or d, and that of another
   one : (u v : Claim) (x y : Extent) → f u ≡ Some x → f v ≡ Some y → (u ≡ c) ⊎ (u ≡ d) → f v ≡ e v
       → (u ≡ v) ⊎ AreApart x y
   one u v x y h k (inl p) q =
@@ -97,7 +97,7 @@ module _ (e f : Claim → Option Extent) (a : Apart e) (c d : Claim) (s : Splits
     | inr r ↦ r
   ])
 
-  -- where a claim is split, no two overlap
+  -- after a claim is split, no two overlap
   pub split_apart : Apart f
   split_apart u v x y h k = go (s.others u) (s.others v)
     where

@@ -1,4 +1,4 @@
--- The object of a word is copied, first where it wasn't, as a mark does that meets it.
+-- The object of a reference is copied if it isn't copied yet, as a mark does that meets it.
 use Rattle.std.proofs.Common.{◌≡◌, ℕ, ◌/◌, ◌%◌, Bool, true, false, cond, Option, Some, None, refl, sym, ◌∙◌, ap}
 use Rattle.std.proofs.Common.{List, [], ◌==◌, if◌then◌else◌}
 use Rattle.std.specs.List.{slice_get}
@@ -27,7 +27,7 @@ use Rattle.refinement.proofs.Carrying.{Carries, alike, and_then, becomes, same_c
 use Rattle.refinement.proofs.Marks.{as_entry, entry_same, leads_to, marked_same, marked_is_word, mark_carries}
 use Rattle.refinement.proofs.Copying.{copy_world, copy_laid}
 
--- an entry of the model that is one of the laws
+-- an entry of the heap is one of the laws
 pub planned_entry : (o : Option Forwarding) (m : ℕ) → as_entry o ≡ Planned m
     → (f : Forwarding) × (o ≡ Some f) × (f.copied ≡ false) × (f.to ≡ m)
 planned_entry None m e = absurd (cc)
@@ -48,12 +48,12 @@ copied_entry (Some f) m e = by_copied f.copied refl e
     by_copied true k z = (f, refl, k, cc)
     by_copied false k z = absurd (cc)
 
--- an entry of the model is that of the heap by addresses
+-- an entry of the heap is that of the address-level model
 pub same_entry : (h : HeapState) (a : ℕ) → (world_of h).side_entry a ≡ as_entry (entry_at h a)
 unfolding entry_at
 same_entry h a = entry_same (of_page h.sides (a / h.store.words)) (a % h.store.words)
 
--- other words of a page, as many as before, leave the store one
+-- other words of the same number in a page keep the store's invariant
 words_keep : (s : StoreState) (n o : ℕ) (xs : List ℕ) → IsStore s → IsStore (with_words s n (λ ws. overlay ws o xs))
 unfolding with_words
 words_keep s n o xs h = by_frame (frame_in (page_at s n))
@@ -68,14 +68,14 @@ words_keep s n o xs h = by_frame (frame_in (page_at s n))
     by_frame None = h
     by_frame (Some f) = by_words f (slice_get s.frames f) refl
 
--- the store after an object is copied is one
+-- the store's invariant holds after an object is copied
 copy_store : (h : HeapState) (a n : ℕ) → IsStore h.store → IsStore (with_copy h a n).store
 unfolding with_copy with_copied_words
 copy_store h a n s = words_keep h.store (n / h.store.words) (n % h.store.words)
     (if a / h.store.words == n / h.store.words then []
     else words_from (a % h.store.words) (object_words h a) (words_at h.store (a / h.store.words))) s
 
--- the object of a word is copied in g, where that is due
+-- the object of a reference is copied in g, if that is due
 pub record IsCopied (h : HeapState) (v : Reference) (g : HeapState) : Type 0 where
   pub carries : Carries h g (copy_word (as_word v))
   pub store : IsStore g.store
@@ -106,7 +106,7 @@ module _ {h : HeapState} (s : IsStore h.store) (l : IsLaid h) (o : SoundObjects 
     globals = refl;
   }
 
-  -- an object is copied that a word names
+  -- the object of a reference is copied
   changed : (a n : ℕ) (bit : Bool) → (world_of h).side_entry a ≡ Planned n
       → IsCopied h (Some (a, bit)) (with_copy h a n)
   unfolding with_copy
@@ -135,7 +135,7 @@ module _ {h : HeapState} (s : IsStore h.store) (l : IsLaid h) (o : SoundObjects 
           by_copied true k = unchanged (Some (a, bit)) (λ n j. (let z = k in cc))
           by_copied false k = changed a f.to bit k
 
--- a word is marked, its object copied first where it wasn't
+-- a reference is marked, its object copied first if it isn't copied yet
 pub record MarksFirst (h : HeapState) (v : Reference) : Type 0 where
   pub copied : IsCopied h v (copied_for h v)
   pub carries : Carries h (with_mark (copied_for h v) v) (mark_word (as_word v))

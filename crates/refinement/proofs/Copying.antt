@@ -1,4 +1,4 @@
--- An object is copied to its planned place: the words there read as it, and its side entry says so.
+-- An object is copied to its planned place: the words there are read as it, and its entry is Copied.
 use Rattle.std.proofs.Common.{◌≡◌, ◌≢◌, ◌⊎◌, inl, inr, ℕ, suc, ◌+◌, ◌-◌, ◌*◌, ◌/◌, ◌%◌, ◌<◌, ◌≤◌, Bool, true, false}
 use Rattle.std.proofs.Common.{◌||◌, cond, nat_eq, List, [], ◌∷◌, length, map, Option, Some, None}
 use Rattle.std.proofs.Common.{refl, sym, ◌∙◌, ap, ap₂, subst, arith, div-add-mod', ne_eqb}
@@ -37,7 +37,7 @@ use Rattle.refinement.proofs.Claims.{object_extent, Splits, split_apart, Within}
 use Rattle.refinement.proofs.Marks.{record_there}
 use Rattle.refinement.proofs.Planned as plans
 
--- runs that have the same in each place
+-- runs that are equal at each index
 run_moved : (vs ws : List ℕ) (a b n : ℕ) → a + n ≤ length vs → b + n ≤ length ws
     → ((i : ℕ) → i < n → slice_get vs (a + i) ≡ slice_get ws (b + i)) → run vs a n ≡ run ws b n
 run_moved vs ws a b n h k same = same_lists (run vs a n) (run ws b n) (length_run vs a n h ∙ sym (length_run ws b n k))
@@ -77,7 +77,7 @@ read_copied ls ws vs o p q r room =
       is = r.is ∙ ap₂ (built r.header) (sym refs) (sym nums);
     }
 
--- side arrays
+-- forwarding tables
 
 or_false : (b : Bool) → b || false ≡ b
 or_false true = refl
@@ -99,7 +99,7 @@ entry_other (f ∷ fs) x o d = by_test (nat_eq f.offset o) refl (entry_other fs 
         (ne_eqb f.offset x (λ z. d (sym (eqb-true f.offset o e) ∙ z))) ∙ ap (λ c. entry_of c f.to) (or_false f.copied)
     by_test false e k = k
 
--- that of a planned object is copied
+-- the entry of a planned object becomes Copied
 entry_copied : (fs : List Forwarding) (x n : ℕ) → entry_at fs x ≡ Planned n
     → entry_at (map (set_copied_of x) fs) x ≡ Copied n
 entry_copied [] x n e = absurd (cc)
@@ -239,7 +239,7 @@ module _ (h : HeapState) (s : IsStore h.store) (l : IsLaid h) (o : SoundObjects 
     apart = agree;
   }
 
-  -- the heap with the copy, of which the store is said by the words that are written
+  -- the heap with the copy, whose store is given by the words that are written
   abbrev after : HeapState
   after = record h {
     store = with_words h.store (n / h.store.words) change;
@@ -306,7 +306,7 @@ module _ (h : HeapState) (s : IsStore h.store) (l : IsLaid h) (o : SoundObjects 
     side_entry = fun_ext entries_after z;
   }
 
-  -- the copy, in the heap by addresses
+  -- the copy, in the address-level model
   pub copy_world : world_of (with_copy h a n) ≡ copy_object a n q (world_of h)
   copy_world = ap world_of copy_is ∙ after_world
 
@@ -429,6 +429,6 @@ module _ (h : HeapState) (s : IsStore h.store) (l : IsLaid h) (o : SoundObjects 
       starts_rows : AreRowsOf after.store (with_bit h.starts h.store.words n true)
       starts_rows = rows_put h.store h.starts (n / h.store.words - 1) (n % h.store.words) true l.starts
 
-  -- and memory stays in order
+  -- memory stays in order
   pub copy_laid : IsLaid (with_copy h a n)
   copy_laid = subst IsLaid (sym copy_is) after_laid

@@ -1,4 +1,4 @@
--- A thread crosses a checkpoint: its registers are marked, and the last one begins the next phase.
+-- A thread crosses a checkpoint: its registers are marked, and the last crossing begins the next phase.
 use Rattle.std.proofs.Common.{◌≡◌, ◌≢◌, inl, inr, ℕ, zero, suc, ◌<◌, ◌≤◌, true, false, cond, not, length}
 use Rattle.std.proofs.Common.{is_none, List, Option, Some, None, refl, sym, ◌∙◌, ap, subst, arith}
 use mathlib.Core.Path.{fun_ext}
@@ -40,7 +40,7 @@ use Rattle.refinement.proofs.Copies.{marks_first}
 use Rattle.refinement.proofs.Records.{records_of, records_carry}
 use Rattle.refinement.proofs.Threads.{register_carries}
 
--- the word in a register is marked
+-- the reference in a register is marked
 register_marked : {g : HeapState} {b b0 : BirthHeap} (t n : ℕ) (x : ThreadState) → IsStore g.store → IsLaid g
     → Invariant (world_of g) b b0 → is_marking g.phase ≡ true → slice_get g.threads t ≡ Some x
     → n < g.config.registers
@@ -113,7 +113,7 @@ crossed_carries h t x at = records_carry h (record (records_of h) {
     f : ThreadState → ThreadState
     f = set_crossed_of true
 
--- where no thread is behind, all have crossed
+-- if there is no first thread that hasn't crossed, all have
 pub none_is_behind : (threads : List ThreadState) → first_behind threads ≡ None → (t : ℕ)
     → has_crossed (slice_get threads t) ≡ true
 unfolding first_behind
@@ -123,7 +123,7 @@ none_is_behind threads e t = by_thread (slice_get threads t) refl
     by_thread None g = refl
     by_thread (Some x) g = not-false x.crossed (position_none (λ (y : ThreadState). not y.crossed) threads e t x g)
 
--- one that is behind hasn't crossed
+-- such a thread hasn't crossed
 one_is_behind : (threads : List ThreadState) (t : ℕ) → first_behind threads ≡ Some t
     → has_crossed (slice_get threads t) ≡ false
 unfolding first_behind
@@ -131,7 +131,7 @@ one_is_behind threads t e =
     let (x, at) = position_finds (λ (y : ThreadState). not y.crossed) threads t e in
     ap has_crossed at ∙ not-true x.crossed (position_passes (λ (y : ThreadState). not y.crossed) threads t x e at)
 
--- the phase after a crossing is as the laws have it
+-- the phase after a crossing is the laws'
 after_crossing : (h : HeapState) (t : ℕ) (x : ThreadState) → slice_get h.threads t ≡ Some x
     → IsPhaseAfter (world_of h) t h.phase (phase_behind h.phase) (phase_after h t)
 after_crossing h t x at = by_found (first_behind (change_at h.threads t f)) refl
@@ -155,7 +155,7 @@ after_crossing h t x at = by_found (first_behind (change_at h.threads t f)) refl
         ∙ ap (put (world_of h).crossed t true) (sym z) ∙ behind) in
         inl (refl, u, other, sym (put_other (world_of h).crossed t true u other) ∙ behind)
 
--- the same, said of another heap by addresses with the same crossings
+-- the same for another address-level model with the same crossings
 phase_of_other : (w v : AddressHeap) (t : ℕ) (now next now' next' f : Phase) → v.crossed ≡ w.crossed → now ≡ now'
     → next ≡ next' → IsPhaseAfter v t now next f → IsPhaseAfter w t now' next' f
 phase_of_other w v t now next now' next' f same e n x = elim x [
@@ -163,7 +163,7 @@ phase_of_other w v t now next now' next' f same e n x = elim x [
   | inr y ↦ inr (y.0 ∙ n, (λ u d. ap (λ g. g u) (sym same) ∙ y.1 u d))
 ]
 
--- registers that a thread hasn't are null
+-- registers past a thread's last are null
 beyond : (h : HeapState) (t : ℕ) → IsLaid h → (r : ℕ) → h.config.registers ≤ r → as_word (register_of h t r) ≡ Null
 unfolding register_of
 beyond h t l r m = by_thread (slice_get h.threads t) refl

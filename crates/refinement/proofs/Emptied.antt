@@ -1,7 +1,7 @@
--- Pages of a heap are being emptied: what of the heap stays, and what each page and each address has then.
+-- Pages become From pages: what of the heap stays, and what each page and each address has then.
 --
--- Letters, beside those of other files: h is the heap before, g the one with its targets, ts the pages of these, and
--- pages those that are protected.
+-- Letters, in addition to those of other files: h is the heap before, g the one with its targets, ts the pages of
+-- these, and pages those that are protected.
 use Rattle.std.proofs.Common.{◌≡◌, ◌≢◌, ◌⊎◌, inl, inr, ℕ, zero, suc, ◌+◌, ◌-◌, ◌*◌, ◌/◌, ◌%◌, ◌<◌, ◌≤◌, Bool, true}
 use Rattle.std.proofs.Common.{false}
 use Rattle.std.proofs.Common.{cond, nat_lt, List, [], ◌∷◌, length, map, Option, Some, None, refl, sym, ◌∙◌, ap}
@@ -36,7 +36,7 @@ use Rattle.refinement.proofs.Protecting.{IsOut, ArePages, sides_many, sides_read
 entry_for : (ℕ → ℕ) → ℕ → Forwarding
 entry_for f o = record { offset = o; to = f o; copied = false }
 
--- an offset that is told has its entry, and no other has one
+-- a listed offset has its entry, and no other has one
 entry_told : (f : ℕ → ℕ) (os : List ℕ) (o : ℕ)
     → (IsIn o os × (entry_at (map (entry_for f) os) o ≡ Planned (f o)))
     ⊎ (entry_at (map (entry_for f) os) o ≡ NoEntry)
@@ -70,7 +70,7 @@ entry_of_told f (x ∷ os) o e = by_first (cases_eq x o) e (entry_of_told f os o
     by_first (inr d) (inl e) rest = absurd (d e)
     by_first (inr d) (inr there) rest = ap entry (ne_eqb x o d) ∙ rest there
 
--- what is so before pages are protected: no page is, and these are closed
+-- what holds before pages are protected: no page is, and these are closed
 pub record MayEmpty (h g : HeapState) (p p0 : PlainHeap) (ts pages : List ℕ) : Type 0 where
   pub store : IsStore h.store
   pub before : Holds h p p0
@@ -80,7 +80,7 @@ pub record MayEmpty (h g : HeapState) (p p0 : PlainHeap) (ts pages : List ℕ) :
   pub closed : (n : ℕ) → IsIn n pages → state_at h.store n ≡ Closed
   pub enough : length ts ≡ target_count (plan_of h pages)
 
--- a record that is being emptied, and the one before it
+-- the record of a From page, and the one before it
 pub record IsEmptied (g after : HeapState) (n : ℕ) : Type 0 where
   pub page : Page
   pub was : page_at g.store n ≡ Some page
@@ -130,7 +130,7 @@ module _ (h g : HeapState) (p p0 : PlainHeap) (ts pages : List ℕ) (m : MayEmpt
       by_page None f = absurd (no (sym (ap state_in f) ∙ closed_now n e))
       by_page (Some q) f = (q, f, sym (ap state_in f) ∙ closed_now n e)
 
-  -- each page is being emptied, or as it was
+  -- each page is From, or as it was
   pub page_after : (n : ℕ) → (IsIn n pages × IsEmptied g after n)
       ⊎ (IsOut n pages × (page_at after.store n ≡ page_at g.store n))
   unfolding with_protected
@@ -156,7 +156,7 @@ module _ (h g : HeapState) (p p0 : PlainHeap) (ts pages : List ℕ) (m : MayEmpt
         now = at after.store ∙ is ∙ ap (option_map set_from_of) (sym (at g.store) ∙ was);
       }
 
-  -- what doesn't read the state of a page stays
+  -- properties that don't depend on the state of a page stay
   pub page_keeps : {B : Type 0} (P : Option Page → B)
       → ((q : Page) → q.state ≡ Closed → P (Some (set_from_of q)) ≡ P (Some q))
       → (n : ℕ) → P (page_at after.store n) ≡ P (page_at g.store n)
@@ -212,7 +212,7 @@ module _ (h g : HeapState) (p p0 : PlainHeap) (ts pages : List ℕ) (m : MayEmpt
       let low = slice_get_within g.store.pages (suc i - 1) q there in
       omega (arith, low, m.holds.laid.sides.pages)
 
-  -- a protected page has the side array of its live objects
+  -- a protected page has the forwarding table of its live objects
   pub side_after : (n : ℕ) → IsIn n pages → of_page after.sides n ≡ side_of h moves n
   unfolding with_protected
   side_after zero e = absurd (omega (arith, positive zero e))
@@ -221,7 +221,7 @@ module _ (h g : HeapState) (p p0 : PlainHeap) (ts pages : List ℕ) (m : MayEmpt
     | inr (out, same) ↦ absurd (out (suc i) e refl)
   ]
 
-  -- and the others have theirs
+  -- the others have theirs
   pub side_stays : (n : ℕ) → IsOut n pages → of_page after.sides n ≡ of_page g.sides n
   unfolding with_protected
   side_stays zero out = refl
@@ -239,7 +239,7 @@ module _ (h g : HeapState) (p p0 : PlainHeap) (ts pages : List ℕ) (m : MayEmpt
           let few : length g.sides ≤ i = ltb-false i (length g.sides) e in
           past after.sides (omega (arith, few, sides_many h moves pages g.sides)) ∙ sym (past g.sides few)
 
-  -- an address of a live object on a protected page goes where it is planned, and no other has an entry
+  -- a live object on a protected page has its planned place, and no other address has an entry
   pub record GoesTo (a : ℕ) : Type 0 where
     pub page : IsIn (a / h.store.words) pages
     pub offset : IsIn (a % h.store.words) (live_offsets h (a / h.store.words))

@@ -1,4 +1,4 @@
--- A mark ends: memory stays in order, and the law's transition.
+-- A mark ends: memory stays in order, and the step is the laws' transition.
 use Rattle.std.proofs.Common.{◌≡◌, ℕ, ◌+◌, ◌/◌, ◌%◌, ◌*◌, ◌||◌}
 use Rattle.std.proofs.Common.{Bool, true, false, not, cond, List, [], length, map}
 use Rattle.std.proofs.Common.{Option, Some, None, is_some, refl, sym, ◌∙◌, ap, subst, arith}
@@ -62,7 +62,7 @@ module _ {h : HeapState} {p p0 : PlainHeap} (s : IsStore h.store) (k : Holds h p
   abbrev lent : ℕ → Bool
   lent = is_lent h.threads
 
-  -- what the pages become
+  -- the states of pages after a mark
 
   states : (n : ℕ) → state_at (store_after_mark lent h.store) n ≡ state_after_mark (lent n) (state_at h.store n)
   unfolding state_at
@@ -88,7 +88,7 @@ module _ {h : HeapState} {p p0 : PlainHeap} (s : IsStore h.store) (k : Holds h p
       by_bit true f = refl
       by_bit false f = by_frame (frame_in (page_at h.store n)) refl f
 
-  -- what the objects become
+  -- the objects after a mark
   objects : (a : ℕ) → object_at (end_mark h) a
       ≡ cond (is_protected (state_at h.store (a / h.store.words))) None (object_at h a)
   unfolding end_mark store_after_mark
@@ -110,7 +110,7 @@ module _ {h : HeapState} {p p0 : PlainHeap} (s : IsStore h.store) (k : Holds h p
           ap (λ b. object_in h.config.layouts b (words_at h.store (a / h.store.words)) (a % h.store.words))
           (bit_ended h.store h.starts a (λ f. absurd (false≢true (sym e ∙ f))))
 
-  -- nothing is marked on a protected page, so all that is marked stays so
+  -- nothing is marked on a protected page, so all mark bits stay
   marks_stay : (a : ℕ) → bit_at (rows_after_mark h.store.pages h.mark) h.store.words a ≡ bit_at h.mark h.store.words a
   marks_stay a = bit_ended h.store h.mark a (λ f. by_bit (bit_at h.mark h.store.words a) refl f)
     where
@@ -143,7 +143,7 @@ module _ {h : HeapState} {p p0 : PlainHeap} (s : IsStore h.store) (k : Holds h p
       → (o : HeapObject) × (object_at (end_mark h) a ≡ Some o)
   still a f x = (x.0, objects a ∙ ap (λ b. cond b None (object_at h a)) f ∙ x.1)
 
-  -- one that is there was
+  -- an object that is there was there before
   was : (a : ℕ) (o : HeapObject) → object_at (end_mark h) a ≡ Some o → object_at h a ≡ Some o
   was a o e = by_bit (is_protected ((world_of h).page_state a)) (sym (objects a) ∙ e)
     where
@@ -151,7 +151,7 @@ module _ {h : HeapState} {p p0 : PlainHeap} (s : IsStore h.store) (k : Holds h p
       by_bit true f = absurd (none-some o f)
       by_bit false f = f
 
-  -- what a claim has, it had
+  -- a claim's extent was its extent before
   had : (c : Claim) (x : Extent) → extent (end_mark h) c ≡ Some x → extent h c ≡ Some x
   unfolding end_mark store_after_mark
   had (OfObject a) x e = by_object (object_at (end_mark h) a) refl e
@@ -260,7 +260,7 @@ module _ {h : HeapState} {p p0 : PlainHeap} (s : IsStore h.store) (k : Holds h p
     world = ended_world;
   }
 
--- what is left to do
+-- nothing is grey
 
 nothing_todo : (h : HeapState) → OnAccepted (λ (u : Unit {0}). ((a : ℕ) → (world_of h).todo a ≡ false)
     × ((g : ℕ) → (world_of h).global_todo g ≡ false)) (refuse_if (has_todo h) refusals.TodoLeft)
@@ -317,7 +317,7 @@ module _ {h : HeapState} {p p0 : PlainHeap} (s : IsStore h.store) (k : Holds h p
       subst (λ g. StepHolds h p p0 (Worker w) steps.EndMark g z.1) (sym may.1)
       (row_by k c (stays h p) (EndMark _ may.0) tt))
 
-  -- and has found what lives, and leaves nothing behind that can be reached
+  -- each reachable object is live, and each uncopied object is unreachable
   pub ended_finds : OnAccepted (λ (z : HeapState × Answer). FindsLive z.0 p p0
       × PlannedIsUnreachable (world_of h) (births_of p)) (end_mark_outcome h)
   ended_finds = on_accepted (end_mark_outcome h) _ _ (may_end h) (λ z may.

@@ -1,4 +1,4 @@
--- What pages, their rows and their words become where a mark ends.
+-- Pages, their bitmaps and their words after the end of a mark.
 use Rattle.std.proofs.Common.{◌≡◌, ◌≢◌, ◌⊎◌, inl, inr, ℕ, zero, suc, ◌+◌, ◌-◌, ◌/◌, ◌%◌}
 use Rattle.std.proofs.Common.{Bool, true, false, cond, count_by, List, [], ◌∷◌, length, map, replicate}
 use Rattle.std.proofs.Common.{get_or}
@@ -37,7 +37,7 @@ pub length_after : (lent : ℕ → Bool) (n : ℕ) (ps : List Page) → length (
 length_after lent n [] = refl
 length_after lent n (p ∷ ps) = ap suc (length_after lent (n + 1) ps)
 
--- what a page becomes
+-- the page after a mark
 pub page_after : (lent : ℕ → Bool) (s : StoreState) (n : ℕ)
     → page_at (store_after_mark lent s) n ≡ option_map (page_after_mark (lent n)) (page_at s n)
 unfolding store_after_mark
@@ -55,12 +55,12 @@ page_after lent s n = by_zero (cases_eq n 0)
 abbrev in_state : Bool → Page → PageState → Page
 in_state lent p f = page_after_mark lent (record p { state = f })
 
--- what holds of what a page becomes holds, where it does by states
+-- a property of the page after a mark, by the page's state
 by_states : (lent : Bool) (p : Page) (P : PageState → Page → Type 0)
     → ((f : PageState) → P f (in_state lent p f)) → P p.state (page_after_mark lent p)
 by_states lent p P h = h p.state
 
--- the state that a page gets
+-- the state of the page after a mark
 state_is : (lent : Bool) (p : Page) (f : PageState) → (in_state lent p f).state ≡ state_after_mark lent f
 state_is true p Open = refl
 state_is false p Open = refl
@@ -74,7 +74,7 @@ pub state_of : (lent : Bool) (o : Option Page)
 state_of lent None = refl
 state_of lent (Some p) = by_states lent p (λ f q. q.state ≡ state_after_mark lent f) (state_is lent p)
 
--- the frame that a page keeps
+-- the frame that the page keeps
 frame_is : (lent : Bool) (p : Page) (f : PageState) → (in_state lent p f).frame ≡ cond (is_protected f) None p.frame
 frame_is true p Open = refl
 frame_is false p Open = refl
@@ -89,7 +89,7 @@ frame_of lent None = refl
 frame_of lent (Some p) =
     by_states lent p (λ f q. q.frame ≡ cond (is_protected f) None p.frame) (frame_is lent p)
 
--- an open page was open, and has given out as many words
+-- a page that is open was, and has given out the same words
 open_is : (lent : Bool) (p : Page) (f : PageState) → is_open (in_state lent p f).state ≡ true
     → (is_open f ≡ true) × ((in_state lent p f).top ≡ p.top)
 open_is true p Open e = (refl, refl)
@@ -124,7 +124,7 @@ memory_kept lent Unused e u = absurd (cc)
 memory_kept lent From e u = absurd (cc)
 memory_kept lent Gone e u = absurd (cc)
 
--- rows
+-- bitmaps
 
 pub no_side : (n m : ℕ) → of_page (replicate {A = List Forwarding} n []) m ≡ []
 no_side n zero = refl
@@ -156,7 +156,7 @@ none_set rows e (suc i) o = ap (λ r. get_or r o false) (list_read rows i) ∙ a
     at (r ∷ rows) e zero = none_counted r (omega (arith, e, bits_more r rows)) o
     at (r ∷ rows) e (suc i) = at rows (omega (arith, e, bits_more r rows)) i
 
--- the row of a page, which it gives up where it is protected
+-- the bitmap of a page, which loses it if it is protected
 row_ended : (ps : List Page) (rows : List (List Bool)) (i : ℕ)
     → get_or (rows_after_mark ps rows) i [] ≡ cond (is_protected (state_in (slice_get ps i))) [] (get_or rows i [])
 row_ended [] rows i = refl
@@ -194,7 +194,7 @@ bit_ended s rows a h = by_page (a / s.words) h
     by_page (suc i) k = ap (λ r. get_or r (a % s.words) false) (row_ended s.pages rows i)
         ∙ by_test i (is_protected (state_in (slice_get s.pages i))) (λ e. k (ap is_protected (state_of_record s i) ∙ e))
 
--- one that is set was
+-- a bit that is set was set before
 pub bit_was : (s : StoreState) (rows : List (List Bool)) (a : ℕ) → bit_at (rows_after_mark s.pages rows) s.words a ≡ true
     → bit_at rows s.words a ≡ true
 bit_was s rows a e = by_page (a / s.words) e

@@ -31,7 +31,7 @@ use Rattle.refinement.proofs.Changes.{read_changed, kept_of}
 use Rattle.refinement.proofs.Carrying.{Carries, alike}
 use Rattle.refinement.proofs.Rooted.{buffer_holds_words}
 
--- the pages of a store whose record of an index is replaced
+-- the pages of a store after the record of an index was replaced
 pub page_set : (s r : StoreState) (i : ℕ) (p q : Page) → slice_get s.pages i ≡ Some p → r.pages ≡ set s.pages i q
     → (m : ℕ) → page_at r m ≡ put (page_at s) (i + 1) (Some q) m
 page_set s r i p q e f =
@@ -49,7 +49,7 @@ page_set s r i p q e f =
 pub page_here : (s : StoreState) (i : ℕ) (p : Page) → slice_get s.pages i ≡ Some p → page_at s (i + 1) ≡ Some p
 page_here s i p e = page_at_record s (i + 1) (λ k. absurd (omega (arith, k))) ∙ ap (slice_get s.pages) (omega arith) ∙ e
 
--- what the new record has like the old one, all pages keep
+-- a property on which the new record agrees with the old one stays for all pages
 pub page_keeps : {B : Type 0} (P : Option Page → B) (s r : StoreState) (i : ℕ) (p q : Page)
     → slice_get s.pages i ≡ Some p → r.pages ≡ set s.pages i q → P (Some q) ≡ P (Some p) → (m : ℕ)
     → P (page_at r m) ≡ P (page_at s m)
@@ -67,7 +67,7 @@ granted h t i p n = record h {
   threads = change_at h.threads t (set_buffer_of (Some (buffer_of i p.top n)));
 }
 
--- page i + 1 is open with room for n more words, and thread t has no buffer
+-- page i + 1 is open with space for n more words, and thread t has no buffer
 pub record MayGrant (h : HeapState) (t i : ℕ) (p : Page) (n : ℕ) (x : ThreadState) : Type 0 where
   pub at : slice_get h.store.pages i ≡ Some p
   pub is_so : is_open p.state ≡ true
@@ -187,7 +187,7 @@ module _ {h : HeapState} (l : IsLaid h) {t i : ℕ} {p : Page} {n : ℕ} {x : Th
   rows : (xs : List (List Bool)) → AreRowsOf h.store xs → AreRowsOf after.store xs
   rows xs r = r ∙ sym (alike_rows h.store _ i p (with_more p n) w.at refl refl)
 
-  -- and memory is in order
+  -- memory is in order
   granted_laid : IsLaid (granted h t i p n)
   granted_laid = record {
     starts = rows h.starts l.starts;
@@ -209,7 +209,7 @@ module _ {h : HeapState} (l : IsLaid h) {t i : ℕ} {p : Page} {n : ℕ} {x : Th
     unused = λ a k. l.unused a (sym (states (a / h.store.words)) ∙ k);
   }
 
-  -- the heap by addresses stays
+  -- the address-level model stays
   pub granted_carries : Carries h (granted h t i p n) (λ w. w)
   granted_carries = record {
     size = alike h after refl refl refl refl (length_changed h.threads t change) refl refl;

@@ -1,4 +1,4 @@
--- Loads: steps that begin one, of a field or of a global; a trap that isn't due, the place healed, and the load's end.
+-- Loads: the steps that begin one, of a field or of a global, that mark its reference, heal its place, or end it.
 use Rattle.std.proofs.Common.{◌≡◌, ℕ, ◌+◌, ◌%◌, ◌<◌, length, get_or, Option, Some, None, false, refl, sym, ◌∙◌, ap}
 use Rattle.std.proofs.Common.{subst, arith, Bool, true, cond, not}
 use Rattle.std.specs.List.{slice_get}
@@ -71,7 +71,7 @@ use Rattle.refinement.proofs.References.{less_is}
 pub none_at_zero : (h : HeapState) → names_of (world_of h) (To 0 false) ≡ None
 none_at_zero h = rw (zero-div h.store.words, zero-div h.store.words) refl
 
--- a number in memory that names something is a word
+-- a number in memory that represents something is a reference
 pub read_named : (h : HeapState) (bits : ℕ) (x : Option ℕ) → names_of (world_of h) (word_in_memory bits) ≡ Some x
     → word_in_memory bits ≡ as_word (read_reference bits)
 read_named h bits x e = by_word (read_word bits) e
@@ -80,12 +80,12 @@ read_named h bits x e = by_word (read_word bits) e
     by_word None e = absurd (none-some x (sym (none_at_zero h) ∙ e))
     by_word (Some w) e = refl
 
--- the word of a global
+-- the reference in a global
 pub global_same : (o : Option Global) → global_in o ≡ as_word (word_of_global o)
 global_same None = refl
 global_same (Some g) = refl
 
--- a field's word is in the object
+-- the reference in a field is in the object
 pub field_is : (h : HeapState) → IsStore h.store → IsLaid h → (a : ℕ) (q : HeapObject) (e : object_at h a ≡ Some q)
     → (i bits : ℕ) → i < length q.refs → word_at h.store (a + (1 + i)) ≡ Some bits → field q i ≡ word_in_memory bits
 field_is h s l a q e i bits m f =
@@ -97,7 +97,7 @@ field_is h s l a q e i bits m f =
     get_or_from_slice_get q.refs i (word_in_memory bits) Null
     (field_of_read h.config.layouts c.words (a % h.store.words) q c.read i bits within at)
 
--- a field of a plain object
+-- a field of an object of the reference model
 pub plain_field : (o : Option Object) (i : ℕ) → i < length (refs_in o) → field_of o i ≡ Some (get_or (refs_in o) i None)
 plain_field None i m = absurd (omega (arith, m))
 plain_field (Some o) i m =
@@ -150,23 +150,23 @@ module _ {h : HeapState} {p p0 : PlainHeap} (s : IsStore h.store) (d : IsHeap h)
       (ap (λ o. plain_set_pending t (r, flat o) (births_of p)) (sym plain)))
       (LoadGlobal t r n (less_is n (length h.globals) low) (ap is_parked_in g.there ∙ g.awake refl)) tt
 
--- a thread's barrier, as the laws speak of it
+-- a thread's barrier, in the laws' terms
 barrier_same : (o : Option ThreadState) → barrier_in o ≡ option_map as_barrier (barrier_of o)
 barrier_same None = refl
 barrier_same (Some x) = refl
 
--- an NMT trap is due in the laws where it is in the model
+-- an NMT trap is due in the laws exactly if it is in the heap
 trap_same : (h : HeapState) (t : ℕ) (w : Reference)
     → effects.nmt_trap_due (world_of h) t (as_word w) ≡ nmt_trap_due h t w
 trap_same h t None = refl
 trap_same h t (Some w) = refl
 
--- bits that are a word's
+-- bits that are those of a reference
 are_bits : (o : Option ℕ) (w : Reference) → are_bits_of o w ≡ true → o ≡ Some (bits_of w)
 are_bits None w e = absurd (cc)
 are_bits (Some n) w e = ap Some (eqb-true n (bits_of w) e)
 
--- words with the same bits are one
+-- references with the same bits are equal
 same_word : (v w : Reference) → IsWord v → IsWord w → bits_of v ≡ bits_of w → v ≡ w
 same_word v w j k e = sym (stored_again v j) ∙ ap read_reference e ∙ stored_again w k
 
@@ -198,7 +198,7 @@ module _ {h : HeapState} {p p0 : PlainHeap} (s : IsStore h.store) (d : IsHeap h)
     unfolding trap_due
     unmarked e = trap_same h t b.now ∙ second_false (gc_trap_due h t b.now) (nmt_trap_due h t b.now) e
 
-    -- the word is marked
+    -- the reference is marked
     now_marked : nmt_trap_due h t b.now ≡ true → StepHolds h p p0 (Thread t) steps.Trap
         (with_barrier (with_mark (copied_for h b.now) b.now) t (set_now_of (marked_word (copied_for h b.now) b.now) b)
         counters.Nmt)
@@ -218,7 +218,7 @@ module _ {h : HeapState} {p p0 : PlainHeap} (s : IsStore h.store) (d : IsHeap h)
         (mark_word (as_word b.now) (world_of h))) m.same))
         (stays h p) (TrapMarked t (as_barrier b) in_world (marks_run h t b.now due)) tt
 
-    -- an NMT trap, where it is due
+    -- an NMT trap, if it is due
     pub nmt_holds : RowHolds h p p0 (Thread t) steps.Trap (nmt_trap h t b)
     unfolding plain_step plain_answer
     nmt_holds = by_due (nmt_trap_due h t b.now) refl
@@ -236,7 +236,7 @@ module _ {h : HeapState} {p p0 : PlainHeap} (s : IsStore h.store) (d : IsHeap h)
     still_load : IsLoad h.config.registers (set_healed b)
     still_load = record { target = load.target; raw = load.raw; now = load.now }
 
-    -- the place has another word by now
+    -- the place has another reference by now
     other_word : StepHolds h p p0 (Thread t) steps.Heal (with_barrier h t (set_healed b) counters.Changed)
         answers.Changed
     unfolding plain_step plain_answer
@@ -275,7 +275,7 @@ module _ {h : HeapState} {p p0 : PlainHeap} (s : IsStore h.store) (d : IsHeap h)
         (barrier_carries (with_global h n b.now) t x at (set_healed b) counters.Healed still_load)) (stays h p)
         (HealGlobal t (as_barrier b) n in_world (ap as_place place) same (unmarked clear)) tt
 
-    -- a place is healed where it still has what was loaded
+    -- a place is healed if it still has what was loaded
     place_healed : trap_due h t b.now ≡ false
         → RowHolds h p p0 (Thread t) steps.Heal (Ok (heal_place h t b))
     unfolding heal_place

@@ -1,4 +1,4 @@
--- Words are marked: the rows, and the word that is left.
+-- Marking references: the bitmaps, and the corrected reference.
 use Rattle.std.proofs.Common.{◌≡◌, ℕ, suc, ◌-◌, ◌*◌, ◌/◌, ◌%◌, ◌<◌, ◌≤◌, Bool, true, false, cond, nat_eq, List, []}
 use Rattle.std.proofs.Common.{◌∷◌, length, Option, Some, None, refl, sym, ◌∙◌, ap, arith, div-add-mod'}
 use mathlib.Core.Path.{fun_ext}
@@ -46,7 +46,7 @@ record_there s n ws e = by_page (page_at s n) refl e
     by_page (Some p) a k =
         let (one, at) = page_there s n p a in (omega (arith, one), slice_get_within s.pages (n - 1) p at)
 
--- where an object stands is an address
+-- the place of an object is an address
 pub object_address : (h : HeapState) (a : ℕ) (q : HeapObject) → IsStore h.store → object_at h a ≡ Some q → IsAddress a
 object_address h a q s e =
     let w = h.store.words in
@@ -61,7 +61,7 @@ object_address h a q s e =
     let high = mul-add-lt (a / w) w (a % w) 1048576 (omega (arith, page, low, few)) offset in
     record { above = omega (arith, above, page, whole); below = omega (arith, high, whole, s.sized.words) }
 
--- an entry, as the laws speak of it
+-- an entry, in the laws' terms
 abbrev pub as_entry : Option Forwarding → SideEntry
 as_entry None = NoEntry
 as_entry (Some f) = worlds.entry_of f.copied f.to
@@ -83,19 +83,19 @@ resolved_same (Some f) a = by_copied f.copied
     by_copied true = refl
     by_copied false = refl
 
--- an address is resolved in the laws as in the model
+-- an address is resolved in the laws as in the heap
 pub resolve_same : (h : HeapState) (a : ℕ) → laws.resolve (world_of h) a ≡ resolve h a
 unfolding resolve entry_at
 resolve_same h a =
     ap (λ e. resolve_by e a) (entry_same (of_page h.sides (a / h.store.words)) (a % h.store.words))
     ∙ resolved_same (entry_of (of_page h.sides (a / h.store.words)) (a % h.store.words)) a
 
--- a word is null, or an object is where it leads
+-- a reference is null, or an object is at its address after forwarding
 abbrev pub LeadsTo : HeapState → Reference → Type 0
 LeadsTo h None = Unit {0}
 LeadsTo h (Some w) = (q : HeapObject) × (object_at h (resolve h w.0) ≡ Some q)
 
--- so is a word that stands for something
+-- so is a reference that represents something
 pub leads_to : (h : HeapState) (v : Reference) (x : Option ℕ) → names (world_of h) (as_word v) ≡ Some x → LeadsTo h v
 leads_to h None x e = tt
 leads_to h (Some w) x e =
@@ -105,7 +105,7 @@ leads_to h (Some w) x e =
           ∙ current_there (world_of h) (laws.resolve (world_of h) w.0) n.object n.here,
     )
 
--- the word that marking leaves
+-- the corrected reference
 pub marked_same : (h : HeapState) (v : Reference)
     → as_word (marked_word h v) ≡ edits.clean_word (world_of h) (as_word v)
 unfolding marked_word
@@ -117,7 +117,7 @@ unfolding marked_word
 marked_is_word h None s n = tt
 marked_is_word h (Some x) s n = object_address h (resolve h x.0) n.0 s n.1
 
--- rows with a bit changed are rows
+-- bitmaps with a bit changed keep their sizes
 pub rows_with : (h : HeapState) (rows : List (List Bool)) (a : ℕ) (b : Bool) → AreRowsOf h.store rows
     → AreRowsOf h.store (with_bit rows h.store.words a b)
 rows_with h rows a b r = rows_put h.store rows (a / h.store.words - 1) (a % h.store.words) b r
@@ -174,7 +174,7 @@ module _ (h : HeapState) (s : IsStore h.store) (l : IsLaid h) where
       by_mark true = l.todo
       by_mark false = rows_with h h.todo (resolve h w.0) true l.todo
 
-  -- the object of a word is marked
+  -- the object of a reference is marked
   pub mark_carries : (v : Reference) → LeadsTo h v → Carries h (with_mark h v) (set_mark (as_word v))
   unfolding with_mark
   mark_carries v n = records_carry h (record (records_of h) { mark = mark_after h v; todo = todo_after h v })

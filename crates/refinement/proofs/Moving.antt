@@ -1,4 +1,4 @@
--- Objects are copied, by workers and by threads that meet them, and words are forwarded to the copies.
+-- Objects are copied, by workers and by threads that meet them, and references are forwarded to the copies.
 use Rattle.std.proofs.Common.{◌≡◌, ◌≢◌, ◌⊎◌, inl, inr, ℕ, zero, suc, ◌+◌, ◌-◌, ◌*◌, ◌/◌, ◌%◌, ◌<◌, ◌≤◌, Bool, true}
 use Rattle.std.proofs.Common.{false}
 use Rattle.std.proofs.Common.{not, cond, List, [], ◌∷◌, Option, Some, None, refl, sym, ◌∙◌, ap, ap₂, subst, arith}
@@ -61,7 +61,7 @@ use Rattle.refinement.proofs.Copies.{planned_entry, copied_entry, same_entry, co
 
 -- the entry of a number
 
--- the entry of a number is that of its offset
+-- the entry of an index is that of its offset
 entry_numbered : (w low : ℕ) (fs : List Forwarding) (e : ℕ) (f : Forwarding) → AreRising w low fs
     → slice_get fs e ≡ Some f → worlds.entry_at fs f.offset ≡ worlds.entry_of f.copied f.to
 entry_numbered w low [] e f r g = absurd (cc)
@@ -76,7 +76,7 @@ entry_numbered w low (x ∷ fs) (suc e) f r g =
     (ne_eqb x.offset f.offset (λ z. absurd (omega (arith, z, k.0))))
     ∙ entry_numbered w (x.offset + 1) fs e f r.2 g
 
--- an address on an open page is one
+-- a number on an open page is an address
 open_address : (s : StoreState) (n : ℕ) → IsStore s → state_at s (n / s.words) ≡ Open → IsAddress n
 unfolding state_at
 open_address s n h e = by_page (page_at s (n / s.words)) refl e
@@ -101,7 +101,7 @@ protecting_is f e = ap is_protect_crossing e
 not_protecting : (f : Phase) → is_protect_crossing f ≡ false → f ≢ ProtectCrossing
 not_protecting f e k = true≢false (sym (ap is_protect_crossing k) ∙ e)
 
--- who may not use an address is held back from a protected page
+-- an address that a thread may not use is on a protected page
 pub held_protected : (h : HeapState) (t a : ℕ) → is_refused (let_through h t a) ≡ true
     → is_protected (state_at h.store (a / h.store.words)) ≡ true
 unfolding let_through
@@ -122,7 +122,7 @@ module _ {h : HeapState} {p p0 : PlainHeap} (s : IsStore h.store) (k : Holds h p
       by_found (Some t) e = tt
       by_found None e = none_is_behind h.threads e
 
-  -- where pages are being protected, all have crossed
+  -- if pages are being protected, all have crossed
   pub all_where_protecting : OnAccepted
       (λ (u : Unit {0}). h.phase ≡ ProtectCrossing → (t : ℕ) → (world_of h).crossed t ≡ true) (crossed_if_protecting h)
   unfolding crossed_if_protecting
@@ -175,7 +175,7 @@ module _ {h : HeapState} {p p0 : PlainHeap} (s : IsStore h.store) (k : Holds h p
       (stays h p)
       (Copy (page * h.store.words + f.offset) f.to q (closed_checkpoint all) plan here) tt))))
 
-  -- where the object at an address is, once it is copied
+  -- the address of the object at an address, once it is copied
   pub record Leads (a : ℕ) : Type 0 where
     pub place : ℕ
     pub is_address : IsAddress place
@@ -186,7 +186,7 @@ module _ {h : HeapState} {p p0 : PlainHeap} (s : IsStore h.store) (k : Holds h p
         ⊎ ((q : HeapObject) × ((world_of h).side_entry a ≡ Planned place) × (object_at h a ≡ Some q)
         × (copied_first h a ≡ with_copy h a place))
 
-  -- a word that stands for a kept birth, on a protected page
+  -- a reference that represents a kept birth, on a protected page
   pub leads : (a : ℕ) (bit : Bool) (x : Option ℕ) → names (world_of h) (To a bit) ≡ Some x
       → ((b : ℕ) → x ≡ Some b → IsKept (world_of h) (births_of p) b)
       → is_protected (state_at h.store (a / h.store.words)) ≡ true → Leads a
@@ -223,7 +223,7 @@ module _ {h : HeapState} {p p0 : PlainHeap} (s : IsStore h.store) (k : Holds h p
       ]
 
   module _ (d : IsHeap h) (t : ℕ) (x : ThreadState) (at : slice_get h.threads t ≡ Some x) where
-    -- a GC trap: the word is forwarded, its object copied first where it wasn't
+    -- a GC trap: the reference is forwarded, its object copied first if it isn't copied yet
     pub gc_holds : (b : Barrier) → barrier_of_thread h t ≡ Some b → gc_trap_due h t b.now ≡ true
         → RowHolds h p p0 (Thread t) steps.Trap (gc_trap h t b b.now)
     unfolding plain_step plain_answer moved_word with_copy

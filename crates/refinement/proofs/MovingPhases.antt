@@ -1,4 +1,4 @@
--- How the steps of moving move the phase: a protection opens its checkpoint, and all others leave the phase.
+-- Phases after the steps of relocation: a protection opens its checkpoint, and all others leave the phase.
 use Rattle.std.proofs.Common.{◌≡◌, ℕ, Bool, true, false, not, cond, List, Option, Some, None, refl}
 use Rattle.std.specs.List.{list_any}
 use Rattle.std.specs.Prelude.{Ok, Err}
@@ -33,7 +33,7 @@ use Rattle.refinement.proofs.ProtectionTests.{idle_is}
 abbrev pub Stays : HeapState → Outcome → Type 0
 Stays h o = OnAccepted (λ (z : HeapState × Answer). z.0.phase ≡ h.phase) o
 
--- an accepted step moves the phase so
+-- an accepted step changes the phase so
 abbrev pub Moves : HeapState → Step → Outcome → Type 0
 Moves h step o = OnAccepted (λ (z : HeapState × Answer). MovesPhase h step z.0) o
 
@@ -44,7 +44,7 @@ protect_moves h pages = on_has (refuse_if (not (is_idle h.phase)) refusals.Phase
     on_bind (all_ripe h pages) _ _ (λ v e. on_bind (room_for h.store (target_count (plan_of h pages))) _ _ (λ w f.
     (idle, refl))))
 
--- an object is copied, first where it wasn't
+-- an object is copied if it isn't copied yet
 first_stays : (h : HeapState) (a : ℕ) → (copied_first h a).phase ≡ h.phase
 unfolding copied_first with_copy
 first_stays h a = by_entry (entry_at h a)
@@ -57,7 +57,7 @@ first_stays h a = by_entry (entry_at h a)
         by_copied true n = refl
         by_copied false n = refl
 
--- and so is the object of a word
+-- so is the object of a reference
 pub copied_for_stays : (h : HeapState) (v : Reference) → (copied_for h v).phase ≡ h.phase
 unfolding copied_for
 copied_for_stays h None = refl
@@ -87,7 +87,7 @@ scrub_word_stays h t r w = by_refused (not (is_refused (let_through h t w.0)))
     by_refused true = refl
     by_refused false = on_test (is_protect_crossing h.phase) _ _ _ (λ e. first_stays h w.0)
 
--- a page gives its memory up
+-- a page is released
 pub release_stays : (h : HeapState) (n : ℕ) → Stays h (release_outcome h n)
 unfolding release_outcome
 release_stays h n = on_unless (is_idle h.phase) _ _ _ (λ e. on_bind (crossed_if_protecting h) _ _ (λ u f.

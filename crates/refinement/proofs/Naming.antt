@@ -1,4 +1,4 @@
--- The object that a usable register names, and the places of its references and data.
+-- The object of a usable register, and the places of its references and data.
 use Rattle.std.proofs.Common.{◌≡◌, ℕ, ◌+◌, ◌<◌, length, Some, ap}
 use Rattle.std.specs.Prelude.{Result}
 use Rattle.model.specs.States.{HeapState}
@@ -21,7 +21,7 @@ use Rattle.refinement.specs.Standing.{Holds}
 use Rattle.refinement.proofs.Accepted.{OnAccepted, on_has, on_some}
 use Rattle.refinement.proofs.Verdicts.{IsUsed, used, field_there, datum_there}
 
--- the object that a usable register names
+-- the object of a usable register
 pub record NamesObject (h : HeapState) (p : PlainHeap) (t r a : ℕ) : Type 0 where
   pub object : HeapObject
   pub uses : Uses (world_of h) t r a object

@@ -1,4 +1,4 @@
--- Objects read off words: what a write elsewhere leaves, and what a write into one makes.
+-- Objects as read from words: the effects of a write elsewhere, and of one into an object.
 use Rattle.std.proofs.Common.{◌≡◌, ℕ, zero, suc, ◌+◌, ◌^◌, ◌<◌, ◌≤◌, Bool, true, false}
 use Rattle.std.proofs.Common.{List, [], ◌∷◌, length, take, drop, map, set, cond, nat_le, Option, Some}
 use Rattle.std.proofs.Common.{None, replicate, refl, sym, ◌∙◌, ap, ap₂, arith, leb-true}
@@ -21,7 +21,7 @@ use Rattle.refinement.specs.Worlds.{run, object_of, object_laid, object_headed, 
 use Rattle.refinement.specs.Claims.{object_size}
 use Rattle.refinement.proofs.Slices.{Agree, run_same, run_all, get_run, length_run, overlaid_in}
 
--- what an object that was read has to do with the words
+-- the relation between an object and the words from which it was read
 pub record IsRead (ls : List Layout) (ws : List ℕ) (o : ℕ) (q : HeapObject) : Type 0 where
   pub header : ℕ
   pub shape : Layout
@@ -73,7 +73,7 @@ is_read ls ws o q r =
     (λ b. cond b (Some (object_of ws o r.header r.shape)) None) (le-leb (o + size_of r.shape) (length ws) r.fits)
     ∙ ap Some (sym r.is)
 
--- the sizes of what is read
+-- the sizes of an object that was read
 pub read_refs : (ls : List Layout) (ws : List ℕ) (o : ℕ) (q : HeapObject) (r : IsRead ls ws o q)
     → length q.refs ≡ r.shape.refs
 read_refs ls ws o q r =
@@ -94,7 +94,7 @@ pub read_fits : (ls : List Layout) (ws : List ℕ) (o : ℕ) (q : HeapObject) �
     → o + object_size q ≤ length ws
 read_fits ls ws o q r = omega (arith, read_size ls ws o q r, r.fits)
 
--- where the words of an object stay, it does
+-- if the words of an object stay, it does
 pub read_same : (ls : List Layout) (ws vs : List ℕ) (o : ℕ) (q : HeapObject) → IsRead ls ws o q → length vs ≡ length ws
     → Agree vs ws o (o + object_size q) → IsRead ls vs o q
 read_same ls ws vs o q r e agree =
@@ -170,7 +170,7 @@ field_of_read ls ws o q r i bits h e =
     get_map (x ∷ xs) zero = refl
     get_map (x ∷ xs) (suc i) = get_map xs i
 
--- the object that is made anew
+-- a new object
 abbrev pub new_object : ℕ → ℕ → Layout → HeapObject
 new_object birth number l =
     record { birth = birth; layout = number; refs = replicate l.refs Null; data_words = replicate l.nums 0 }

@@ -15,7 +15,7 @@ use Rattle.refinement.specs.Claims.{object_size}
 use Rattle.refinement.proofs.Slices.{Agree}
 use Rattle.refinement.proofs.ObjectWords.{IsRead, read_is, is_read, read_same}
 
--- an object that is there
+-- an object that exists
 
 pub record IsThere (h : HeapState) (a : ℕ) (q : HeapObject) : Type 0 where
   pub bit : bit_at h.starts h.store.words a ≡ true
@@ -35,7 +35,7 @@ there h a q e = go (bit_at h.starts h.store.words a) (words_at h.store (a / h.st
     go false (Some ws) f g k = absurd (cc)
     go false None f g k = absurd (cc)
 
--- the page of number n gets other words, of which the object q at an address of it is read, and no other object's words
+-- page n gets other words, from which the object q at an address of it is read, and the words of no other object
 -- change
 pub record Rewrites (h : HeapState) (starts : List (List Bool)) (n a : ℕ) (f : List ℕ → List ℕ) (q : HeapObject) :
     Type 0 where
@@ -51,7 +51,7 @@ pub record Rewrites (h : HeapState) (starts : List (List Bool)) (n a : ℕ) (f :
   pub apart : (x : ℕ) (o : HeapObject) → x ≢ a → x / h.store.words ≡ n → object_at h x ≡ Some o
       → Agree (f words) words (x % h.store.words) (x % h.store.words + object_size o)
 
--- then the objects are those of before, but for that one
+-- then the objects are those of before, except for that one
 pub rewritten : (h : HeapState) (starts : List (List Bool)) (n a : ℕ) (f : List ℕ → List ℕ) (q : HeapObject)
     → IsStore h.store → Rewrites h starts n a f q
     → (x : ℕ) → object_in h.config.layouts (bit_at starts h.store.words x)

@@ -47,7 +47,7 @@ pub record LiesOn (w n : ℕ) (x : Extent) : Type 0 where
   pub from : n * w ≤ x.from
   pub upto : x.upto ≤ n * w + w
 
--- what lies in two pages is apart
+-- extents in two pages are apart
 pub pages_apart : (w m n : ℕ) (x y : Extent) → m ≢ n → LiesOn w m x → LiesOn w n y → AreApart x y
 pages_apart w m n x y d a b = by_order (less m n d)
   where
@@ -248,7 +248,7 @@ module _ {h : HeapState} (s : IsStore h.store) (k : Each h.threads (FillsIn h.st
       by_page (inr d) = ap₂ (λ b y. object_in h.config.layouts b y (a % h.store.words))
           (other_bit h.starts l.starts a d) (words_other (a / h.store.words) d)
 
-  -- a row that has no bit on the page stays
+  -- a bitmap that has no bit on the page stays
   stays : (xs : List (List Bool))
       → AreRowsOf h.store xs → ((a : ℕ) → a / h.store.words ≡ i + 1 → bit_at xs h.store.words a ≡ false) → (a : ℕ)
       → bit_at (set xs i (replicate h.store.words false)) h.store.words a ≡ bit_at xs h.store.words a
@@ -289,7 +289,7 @@ module _ {h : HeapState} (s : IsStore h.store) (k : Each h.threads (FillsIn h.st
       → state_at after.store (a / h.store.words) ≡ cond (on_page h i a) Open (state_at h.store (a / h.store.words))
   states a = page_states (a / h.store.words)
 
-  -- the heap by addresses has the page open
+  -- the address-level model has the page open
   pub opened_world : world_of after ≡ open_page (on_page h i) (world_of h)
   unfolding open_fresh register_of
   opened_world = λ z. record (world_of h) {
@@ -334,7 +334,7 @@ module _ {h : HeapState} (s : IsStore h.store) (k : Each h.threads (FillsIn h.st
       ∙ ap (end_extent h.store.words (i + 1)) (put_same (page_at h.store) (i + 1) (Some (fresh_page f)))) ∙ e in
       (sym (ap (λ (z : Extent). z.from) (same_Some _ _ is)), sym (ap (λ (z : Extent). z.upto) (same_Some _ _ is)))
 
-  -- what lies on another page is apart from the words of this one
+  -- an extent on another page is apart from the words of this one
   other_page : (n : ℕ) → n ≢ i + 1 → (x : Extent)
       → n * h.store.words ≤ x.from → x.upto ≤ n * h.store.words + h.store.words
       → (x.upto ≤ (i + 1) * h.store.words) ⊎ ((i + 1) * h.store.words + h.store.words ≤ x.from)
@@ -382,7 +382,7 @@ module _ {h : HeapState} (s : IsStore h.store) (k : Each h.threads (FillsIn h.st
       ∙ ap (set (map length xs) i) (length-replicate h.store.words false)
       ∙ ap (λ ns. set ns i h.store.words) r ∙ sym (opened_rows h.store i f)
 
-  -- and memory is in order
+  -- memory is in order
   pub opened_laid : IsLaid after
   unfolding open_fresh
   opened_laid = record {

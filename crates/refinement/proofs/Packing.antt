@@ -1,4 +1,5 @@
--- The objects of a page that is protected lie in two targets at most. Letters are those of `Planned` and `Protections`.
+-- The objects of a page that is protected go to at most two targets. Letters are those of `Planned` and
+-- `Protections`.
 use Rattle.std.proofs.Common.{◌≡◌, ◌⊎◌, inl, inr, ℕ, zero, suc, ◌+◌, ◌*◌, ◌/◌, ◌%◌, ◌<◌, ◌≤◌, ◌==◌, ◌||◌, Bool, true}
 use Rattle.std.proofs.Common.{false, not, List, [], ◌∷◌, ◌++◌, length, map, take, drop, Option, Some, None}
 use Rattle.std.proofs.Common.{refl, sym}
@@ -43,12 +44,12 @@ use Rattle.refinement.proofs.ProtectionTests.{all_closed, has_room, idle_is}
 use Rattle.refinement.proofs.Targets.{targets_hold}
 use Rattle.refinement.proofs.Verdicts.{worker_passed}
 
--- objects that lie one behind the other
+-- consecutive objects
 
 abbrev total : List ℕ → ℕ
 total ns = sum_by (λ n. n) ns
 
--- each of these offsets has so many words before the next one, and all lie from one place up to another
+-- each object ends before the next one's offset, and all are between one place and another
 abbrev AreSpaced : (ℕ → ℕ) → ℕ → ℕ → List ℕ → Type 0
 AreSpaced size high low [] = low ≤ high
 AreSpaced size high low (o ∷ os) = (low ≤ o) × AreSpaced size high (o + size o) os
@@ -57,7 +58,7 @@ spaced_low : (size : ℕ → ℕ) (high low : ℕ) (os : List ℕ) → AreSpaced
 spaced_low size high low [] s = s
 spaced_low size high low (o ∷ os) s = omega (arith, s.0, spaced_low size high (o + size o) os s.1)
 
--- so the first of them have no more words than there are
+-- so the first of them have at most the words between the two
 spaced_total : (size : ℕ → ℕ) (high low : ℕ) (os : List ℕ) (k : ℕ) → AreSpaced size high low os
     → low + total (take k (map size os)) ≤ high
 spaced_total size high low [] zero s = omega (arith, s)
@@ -70,7 +71,7 @@ spaced_total size high low (o ∷ os) (suc k) s = omega (
   sum_by-cons (λ (n : ℕ). n) (size o) (take k (map size os)),
 )
 
--- offsets of bits are so where each ends within the high end, and before each later one
+-- offsets of bits are so if each object ends at most at the high end, and before each later one
 spaced_from : (size : ℕ → ℕ) (high b low : ℕ) (bits : List Bool)
     → ((o : ℕ) → IsIn o (offsets_from b bits) → low ≤ o)
     → ((o : ℕ) → IsIn o (offsets_from b bits) → o + size o ≤ high)
@@ -90,8 +91,7 @@ spaced_from size high b low (false ∷ bits) from fits apart l =
 
 -- the objects of a page among those of several
 
--- in the list of what several numbers give, what this number gives stands together, from a place on, and is all that
--- belongs to it
+-- in the list of what several numbers give, what this number gives is contiguous, and is all that belongs to it
 record IsBlock (f : ℕ → List ℕ) (size owner : ℕ → ℕ) (n : ℕ) (xs : List ℕ) : Type 0 where
   pub start : ℕ
   pub only : (i a : ℕ) → slice_get xs i ≡ Some a → owner a ≡ n → (k : ℕ) × (i ≡ start + k) × (k < length (f n))
@@ -115,7 +115,7 @@ named n (m ∷ ns) (inr e) = by_first (m == n) (named n ns e)
     by_first true k = refl
     by_first false k = k
 
--- a list that names none twice names none of its first in the rest, and none of the rest twice
+-- a list without repeats has its first element nowhere in the rest, and the rest has no repeats
 once : (n : ℕ) (ns : List ℕ) → has_twice (n ∷ ns) ≡ false → (IsIn n ns → ⊥) × (has_twice ns ≡ false)
 once n ns e = by_first (list_any (λ m. m == n) ns) refl e
   where
@@ -215,7 +215,7 @@ module _ (h : HeapState) (s : IsStore h.store) (l : IsLaid h) (pages : List ℕ)
         mod-mul-add n h.store.words o (live_within h l n o e),
       )
 
-  -- so they come to no more words than the page has
+  -- so they have at most the words of the page
   spaced_on : (n : ℕ) → IsIn n pages → AreSpaced (size_on n) h.store.words 0 (live_offsets h n)
   unfolding live_offsets
   spaced_on n there = spaced_from (size_on n) h.store.words 0 0 (of_page h.live n) (λ o e. omega arith)
@@ -319,13 +319,13 @@ module _ (h : HeapState) (s : IsStore h.store) (l : IsLaid h) (pages : List ℕ)
                 );
           }
 
--- the row
+-- the outcome
 
 or_second : (b c : Bool) → (b || c) ≡ false → c ≡ false
 or_second true c e = absurd (true≢false e)
 or_second false c e = e
 
--- pages that may be named together are named once each
+-- pages of a valid list are named once each
 named_once : (h : HeapState) (pages : List ℕ) → are_bad_pages h pages ≡ false → has_twice pages ≡ false
 named_once h [] e = refl
 named_once h (n ∷ ns) e = or_second (list_any (no_page_in h.store) (n ∷ ns)) (has_twice (n ∷ ns)) e

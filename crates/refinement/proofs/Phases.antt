@@ -1,4 +1,4 @@
--- The phase moves as the collector's cycle has it.
+-- The phase changes as in the collector's cycle.
 use Rattle.std.proofs.Common.{◌≡◌, inl, inr, ℕ, zero, suc, ◌-◌, ◌&&◌, ◌||◌, Bool, true, false, cond, not}
 use Rattle.std.proofs.Common.{nat_le, nat_lt}
 use Rattle.std.proofs.Common.{is_some, is_none, Option, Some, None, ◌+◌, ◌*◌, refl, sym, ◌∙◌, ap, subst}
@@ -162,7 +162,7 @@ module _ (h : HeapState) (t : ℕ) where
   unfolding unpark_outcome with_parked
   unpark_stays = on_truth (is_parked_in (slice_get h.threads t)) _ _ _ (λ e. refl)
 
-  -- registers that are marked leave the phase
+  -- marking registers leaves the phase
   marked_stays : (n : ℕ) → (with_marked_registers h t n).phase ≡ h.phase
   unfolding with_marked_register with_marked_word with_register with_mark
   marked_stays zero = refl

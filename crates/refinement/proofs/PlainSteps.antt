@@ -1,4 +1,4 @@
--- The steps of the model's plain heap are those of the laws' plain heap.
+-- The steps of `model`'s reference model are those of the laws'.
 use Rattle.std.proofs.Common.{◌≡◌, ◌≢◌, ℕ, zero, suc, ◌<◌, List, [], ◌∷◌, ◌++◌, length, set, replicate, Option, Some}
 use Rattle.std.proofs.Common.{None, refl, sym, ◌∙◌, ap, subst, arith, length-append}
 use Rattle.std.specs.List.{slice_get}
@@ -28,7 +28,7 @@ use Rattle.refinement.proofs.Carrying.{Follows, stays}
 
 -- registers
 
--- the registers of threads, of which one has its register r changed
+-- the registers of threads after register r of one changed
 name_changed : (ts : List PlainThread) (t r : ℕ) (v : Option ℕ) (f : PlainThread → PlainThread) (y : PlainThread)
     → slice_get ts t ≡ Some y → r < length y.registers → (f y).registers ≡ set y.registers r v
     → (u s : ℕ) → name_in (slice_get (change_at ts t f) u) s ≡ put_at (λ u s. name_in (slice_get ts u) s) t r v u s
@@ -52,7 +52,7 @@ name_changed ts t r v f y e k is u s =
         ∙ in_thread q
         ∙ ap (λ o. put (λ q. name_in o q) r v q) (sym e)
 
--- the plain heap has the threads of a heap
+-- the reference model has the threads of a heap
 pub plain_thread : {h : HeapState} {p p0 : PlainHeap} → Holds h p p0 → (t : ℕ) (x : ThreadState)
     → slice_get h.threads t ≡ Some x
     → (y : PlainThread) × (slice_get p.threads t ≡ Some y) × (length y.registers ≡ h.config.registers)
@@ -60,7 +60,7 @@ plain_thread {h = h} {p = p} k t x at =
     let (y, e) = get_within p.threads t (omega (arith, slice_get_within h.threads t x at, k.roots.threads)) in
     (y, e, k.roots.registers t y e)
 
--- the roots of a plain heap with a thread changed
+-- the roots of a reference model with a thread changed
 changed_roots : (h : HeapState) (p q : PlainHeap) (t : ℕ) (f : PlainThread → PlainThread)
     → q.threads ≡ change_at p.threads t f → length q.globals ≡ length p.globals
     → ((y : PlainThread) → length (f y).registers ≡ length y.registers) → HasRootsOf h p → HasRootsOf h q
@@ -109,7 +109,7 @@ object_more xs o = put_all (λ b y. slice_get (xs ++ o ∷ []) b ≡ y) (slice_g
         by_list (x ∷ xs) zero d = refl
         by_list (x ∷ xs) (suc b) d = by_list xs b (λ e. d (ap suc e))
 
--- what is read of a function with a value put in
+-- a read of a function after a `put`
 put_read : {X B : Type 0} (P : Option X → B) (f : ℕ → Option X) (a : ℕ) (v : Option X) (b : ℕ)
     → P (put f a v b) ≡ put (λ c. P (f c)) a (P v) b
 put_read P f a v = put_all (λ b y. P (put f a v b) ≡ y) (λ c. P (f c)) a (P v) (ap P (put_same f a v))

@@ -1,4 +1,4 @@
--- What a plan says of the live objects of closed pages: each has a place of its own in a target, with room for it.
+-- The plan of the live objects of closed pages: each has a place of its own in a target, with space for it.
 use Rattle.std.proofs.Common.{◌≡◌, ◌⊎◌, inl, inr, ℕ, zero, suc, ◌+◌, ◌*◌, ◌/◌, ◌%◌, ◌<◌, ◌≤◌, Bool, true, false}
 use Rattle.std.proofs.Common.{List, [], ◌∷◌, length, map, get_or, Option, Some, None, refl, sym, ◌∙◌, ap, subst, arith}
 use Rattle.std.proofs.Common.{div-add-mod'}
@@ -28,7 +28,7 @@ use Rattle.refinement.proofs.Verdicts.{shape_there}
 use Rattle.refinement.proofs.Changes.{list_of, list_read}
 use Rattle.refinement.proofs.Opened.{LiesOn, pages_apart}
 
--- an object that is there has the words that its header says
+-- an object that exists has the words of its layout
 pub words_are : (h : HeapState) (a : ℕ) (q : HeapObject) → object_at h a ≡ Some q → object_words h a ≡ object_size q
 unfolding object_words
 words_are h a q e =
@@ -44,7 +44,7 @@ pub record IsLive (h : HeapState) (pages : List ℕ) (a : ℕ) : Type 0 where
   pub here : object_at h a ≡ Some object
   pub fits : a % h.store.words + object_size object ≤ h.store.words
 
--- an offset that is told is one of the page
+-- a listed offset is one of the page
 module _ (h : HeapState) (l : IsLaid h) where
   row_of : (n j : ℕ) → slice_get (of_page h.live n) j ≡ Some true → j < h.store.words
   row_of zero j f = absurd (cc)
@@ -71,7 +71,7 @@ module _ (h : HeapState) (l : IsLaid h) where
 
 module _ (h : HeapState) (s : IsStore h.store) (l : IsLaid h) (pages : List ℕ)
     (closed : (n : ℕ) → IsIn n pages → state_at h.store n ≡ Closed) where
-  -- an offset that is told on one of the pages
+  -- a listed offset on one of the pages
   pub live_at : (n o : ℕ) → IsIn n pages → IsIn o (live_offsets h n) → IsLive h pages (n * h.store.words + o)
   unfolding live_offsets
   live_at n o e k = by_bit n (offset_told 0 (of_page h.live n) o k) e k
@@ -101,7 +101,7 @@ module _ (h : HeapState) (s : IsStore h.store) (l : IsLaid h) (pages : List ℕ)
             fits = omega (arith, fits, words_sized h.store ((n * h.store.words + o) / h.store.words) t.words s t.page);
           }
 
-  -- one that the plan is made of
+  -- an object of the plan
   pub live_of : (a : ℕ) → IsIn a (live_objects h pages) → IsLive h pages a
   unfolding live_objects
   live_of a e =
@@ -109,7 +109,7 @@ module _ (h : HeapState) (s : IsStore h.store) (l : IsLaid h) (pages : List ℕ)
       let (o, told, at) = mapped_in (λ o. n * h.store.words + o) a (live_offsets h n) is in
       subst (IsLive h pages) at (live_at n o there told)
 
-  -- the plan is made of each
+  -- each live object is in the plan
   pub of_live : (a : ℕ) → IsIn (a / h.store.words) pages → IsIn (a % h.store.words) (live_offsets h (a / h.store.words))
       → IsIn a (live_objects h pages)
   unfolding live_objects
@@ -138,7 +138,7 @@ module _ (h : HeapState) (s : IsStore h.store) (l : IsLaid h) (pages : List ℕ)
           omega (arith, z.fits, words_are h a z.object z.here, same)
 
   module _ (targets : List ℕ) (enough : length targets ≡ target_count (plan_of h pages)) where
-    -- the object at an address has the number i in the plan, and goes to this place of this target
+    -- the object at an address has the number i in the plan, and its place in this target
     pub record IsPlanned (a to : ℕ) : Type 0 where
       pub index : ℕ
       pub at : slice_get (live_objects h pages) index ≡ Some a
@@ -196,7 +196,7 @@ module _ (h : HeapState) (s : IsStore h.store) (l : IsLaid h) (pages : List ℕ)
     pub place_lies : (a to : ℕ) (x : IsPlanned a to) → LiesOn h.store.words x.target (place_extent a to x)
     place_lies a to x = record { from = omega (arith, x.is); upto = omega (arith, x.is, x.room) }
 
-    -- and those of two objects are apart
+    -- those of two objects are apart
     module _ (once : (i j n : ℕ) → slice_get targets i ≡ Some n → slice_get targets j ≡ Some n → i ≡ j) where
       in_order : (a b m n : ℕ) (x : IsPlanned a m) (y : IsPlanned b n) → x.index < y.index
           → AreApart (place_extent a m x) (place_extent b n y)

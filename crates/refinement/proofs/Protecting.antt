@@ -1,4 +1,4 @@
--- What protecting pages does to their records and side arrays, page by page.
+-- The effect of protecting pages on their records and forwarding tables, page by page.
 use Rattle.std.proofs.Common.{◌≡◌, ◌≢◌, ◌⊎◌, inl, inr, ℕ, suc, ◌-◌, ◌<◌, List, []}
 use Rattle.std.proofs.Common.{◌∷◌, length, set, get_or, Option, Some, None, refl, sym, ◌∙◌, ap, arith}
 use Rattle.std.specs.List.{slice_get}
@@ -32,7 +32,7 @@ sides_many h moves [] sides = refl
 sides_many h moves (m ∷ pages) sides =
     sides_many h moves pages (set sides (m - 1) (side_of h moves m)) ∙ length-set sides (m - 1) (side_of h moves m)
 
--- a page has the side array that was made for it, or the one that it had
+-- a page has the forwarding table that was made for it, or the one that it had
 pub sides_read : (h : HeapState) (moves : List (ℕ × ℕ)) (pages : List ℕ) (sides : List (List Forwarding)) (i : ℕ)
     → ArePages pages → i < length sides
     → (IsIn (suc i) pages × (of_page (with_sides h moves pages sides) (suc i) ≡ side_of h moves (suc i)))
@@ -62,7 +62,7 @@ pages_many [] records = refl
 pages_many (m ∷ pages) records =
     pages_many pages (change_at records (m - 1) set_from_of) ∙ length_changed records (m - 1) set_from_of
 
--- a page is being emptied, or its record is as it was
+-- a page is From, or its record is as it was
 pub pages_read : (pages : List ℕ) (records : List Page) (i : ℕ) → ArePages pages
     → (IsIn (suc i) pages
     × (slice_get (with_from_pages pages records) i ≡ option_map set_from_of (slice_get records i)))

@@ -1,4 +1,4 @@
--- What the tests of a protection tell, if it is accepted: the phase, the pages, and that there is room.
+-- What follows from an accepted protection's tests: the phase, the pages, and that there is space.
 use Rattle.std.proofs.Common.{◌≡◌, inl, inr, ℕ, ◌≤◌, Bool, true, false}
 use Rattle.std.proofs.Common.{cond, not, nat_lt, List, [], ◌∷◌, refl, sym, ◌∙◌}
 use Rattle.std.proofs.Common.{◌&&◌, ap}
@@ -45,7 +45,7 @@ all_closed h (k ∷ pages) = on_has (ripe h k) _ _ _ (ripe_closed h k) (λ u fir
     on_accepted (all_ripe h pages) _ _ (all_closed h pages) (λ v others.
     λ n e. elim e [ inl is ↦ ap (state_at h.store) (sym is) ∙ first | inr there ↦ others n there ]))
 
--- there is room for N targets
+-- there is space for `need` targets
 pub record HasRoomFor (h : HeapState) (need : ℕ) : Type 0 where
   pub frames : need ≤ free_count h.store
   pub pages : need ≤ unused_count h.store

@@ -58,7 +58,7 @@ use Rattle.refinement.proofs.Emptied.{state_emptied, state_stays, objects_after,
 use Rattle.refinement.proofs.Emptied.{goes_to, entry_after, in_or_out}
 use Rattle.refinement.proofs.ProtectionTests.{all_closed, has_room, idle_is}
 
--- a bit that is read as set is there
+-- a bit that is read as set exists
 read_true : (row : List Bool) (o : ℕ) → get_or row o false ≡ true → slice_get row o ≡ Some true
 read_true [] o e = absurd (cc)
 read_true (b ∷ row) zero e = ap Some e
@@ -78,7 +78,7 @@ module _ (h g : HeapState) (p p0 : PlainHeap) (ts pages : List ℕ) (d : IsHeap 
   page_of : (a : ℕ) → a / g.store.words ≡ a / h.store.words
   page_of a = ap (λ w. a / w) m.targets.words
 
-  -- where an address goes
+  -- the planned place of an address
   plan_at : (a : ℕ) → GoesTo h g p p0 ts pages m a
       → IsPlanned h m.store laid pages m.closed ts m.enough a (place_of (moves_of h pages ts) a)
   plan_at a k = planned h m.store laid pages m.closed ts m.enough a
@@ -136,7 +136,7 @@ module _ (h g : HeapState) (p p0 : PlainHeap) (ts pages : List ℕ) (d : IsHeap 
   told a e = bit_told 0 (of_page h.live (a / h.store.words)) (a % h.store.words) (a % h.store.words) (omega arith)
       (read_true (of_page h.live (a / h.store.words)) (a % h.store.words) e)
 
-  -- the protection is one that the laws know
+  -- the protection is a transition of the laws
   may_protect : MayProtect (world_of g) (world_of after).page_state (world_of after).side_entry (world_of after).crossed
   unfolding with_protected
   may_protect = record {
@@ -211,7 +211,7 @@ module _ (h g : HeapState) (p p0 : PlainHeap) (ts pages : List ℕ) (d : IsHeap 
 
   -- claims
 
-  -- a claim of before, or a place that is planned
+  -- a claim of before, or a planned place
   plans : (a : ℕ) (y : Extent) → extent after (OfPlan a) ≡ Some y
       → (n : ℕ) × (x : Goes a n) × (y ≡ place_extent h m.store laid pages m.closed ts m.enough a n x)
   plans a y e = elim (entry_after h g p p0 ts pages m a) [
@@ -241,7 +241,7 @@ module _ (h g : HeapState) (p p0 : PlainHeap) (ts pages : List ℕ) (d : IsHeap 
         upto = n * g.store.words + g.store.words;
       })) None) (ap is_open e))
 
-  -- a planned place is apart from what was claimed before
+  -- a planned place is apart from earlier claims
   plan_apart : (a n : ℕ) (x : Goes a n) (c : Claim) (y : Extent) → extent g c ≡ Some y
       → AreApart (place_extent h m.store laid pages m.closed ts m.enough a n x) y
   plan_apart a n x c y e = elim (m.targets.extents c y e) [
@@ -315,7 +315,7 @@ module _ (h g : HeapState) (p p0 : PlainHeap) (ts pages : List ℕ) (d : IsHeap 
   memory a = page_keeps h g p p0 ts pages m (λ o. has_memory (state_in o))
       (λ q e. ap has_memory (sym e)) (a / g.store.words)
 
-  -- the offsets of a side array rise
+  -- the offsets of a forwarding table rise
   rising : (i : ℕ) (fs : List Forwarding) → slice_get after.sides i ≡ Some fs → AreRising g.store.words 0 fs
   unfolding side_of live_offsets with_protected
   rising i fs e = elim (in_or_out h g p p0 ts pages m (suc i)) [
@@ -426,11 +426,11 @@ module _ (h g : HeapState) (p p0 : PlainHeap) (ts pages : List ℕ) (d : IsHeap 
     world = protected_world;
   }
 
-  -- the heap stands for what it stood for
+  -- the heap represents what it did
   pub protected_holds : Holds after p p0
   protected_holds = step_by m.holds protected_carries (stays g p) (Protect _ _ _ may_protect)
 
--- the row
+-- the outcome
 
 module _ {h : HeapState} {p p0 : PlainHeap} (s : IsStore h.store) (d : IsHeap h) (k : Holds h p p0) (w : ℕ) where
   -- pages are protected

@@ -122,7 +122,7 @@ module _ (h : HeapState) (i : ℕ) (p : Page) (n : ℕ) (at : slice_get h.store.
     unused = λ a k. l.unused a (sym (states (a / h.store.words)) ∙ k);
   }
 
-  -- the heap by addresses stays
+  -- the address-level model stays
   pub raised_carries : 0 < n → Carries h after (λ w. w)
   raised_carries low = record {
     size = alike h after refl refl refl refl refl refl refl;

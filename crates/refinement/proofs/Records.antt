@@ -1,4 +1,4 @@
--- Edits of the collector's records and of what is marked: they leave memory in order.
+-- Edits of the collector's records and of mark bits: they leave memory in order.
 use Rattle.std.proofs.Common.{◌≡◌, ℕ, Bool, List, length, refl, ap}
 use Rattle.std.specs.List.{slice_get}
 use Rattle.std.specs.Option.{option_map}
@@ -17,7 +17,7 @@ use Rattle.refinement.specs.Roots.{HasWords}
 use Rattle.refinement.proofs.Claims.{extents_same}
 use Rattle.refinement.proofs.Carrying.{Carries, alike}
 
--- what of a heap is no memory, no side array and no bit of an object
+-- the parts of a heap that are no memory, no forwarding table and no bit of an object
 pub record Records : Type 0 where
   pub mark : List (List Bool)
   pub todo : List (List Bool)
@@ -51,7 +51,7 @@ with_records h r = record h {
   nmt = r.nmt;
 }
 
--- these are of the shape that the heap's have
+-- these have the sizes of the heap's
 pub record FitsIn (h : HeapState) (r : Records) : Type 0 where
   pub mark : AreRowsOf h.store h.mark → AreRowsOf h.store r.mark
   pub todo : AreRowsOf h.store h.todo → AreRowsOf h.store r.todo

@@ -1,4 +1,4 @@
--- Steps on registers alone: what they hold, what the plain heap answers, and registers that are written.
+-- Steps on registers alone: the contents of registers, the reference model's answers, and registers that are written.
 use Rattle.std.proofs.Common.{◌≡◌, ◌↔◌, inl, inr, ℕ, Bool, true, false, nat_eq, is_none, Option, Some, None, refl}
 use Rattle.std.proofs.Common.{sym, ◌∙◌, ap, ap₂, eq-eqb, ne_eqb}
 use Rattle.std.proofs.lemmas.Option.{same_Some}
@@ -43,7 +43,7 @@ no_word : (w : Reference) → w ≡ None → as_word w ≡ Null
 no_word w e = ap as_word e
 
 module _ {h : HeapState} {p p0 : PlainHeap} (s : IsStore h.store) (d : IsHeap h) (k : Holds h p p0) (t : ℕ) where
-  -- a register gets another's word
+  -- a register gets another's reference
   pub copy_holds : (r q : ℕ) → Passed h t (steps.CopyReg r q)
       → RowHolds h p p0 (Thread t) (steps.CopyReg r q) (copy_register_outcome h t r q)
   unfolding copy_register_outcome plain_step plain_answer

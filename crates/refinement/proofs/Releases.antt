@@ -1,4 +1,4 @@
--- A page whose objects are all copied gives its memory up: its objects go, and nothing else changes.
+-- A page whose objects are all copied is released: its objects are removed, and nothing else changes.
 use Rattle.std.proofs.Common.{◌≡◌, ◌≢◌, inl, inr, ℕ, ◌+◌, ◌-◌, ◌/◌, ◌%◌, Bool, true, false}
 use Rattle.std.proofs.Common.{cond, not, nat_eq, List, [], length, Option, Some, None, refl, sym, ◌∙◌, ap}
 use Rattle.std.proofs.Common.{subst, arith, eq-eqb, ne_eqb}
@@ -57,7 +57,7 @@ is_from_is Gone e = absurd (cc)
 not_idle : (f : Phase) → is_idle f ≡ false → f ≢ Idle
 not_idle f e k = true≢false (sym (ap is_idle k) ∙ e)
 
--- the record of a page that is being emptied
+-- the record of a From page
 pub record IsEmptying (s : StoreState) (n : ℕ) : Type 0 where
   pub page : Page
   pub was : page_at s n ≡ Some page
@@ -74,7 +74,7 @@ emptying s n e = by_page (page_at s n) refl e
     by_page (Some q) f k =
         let (one, at) = page_there s n q f in record { page = q; was = f; from = k; number = sym one; at = at }
 
--- where the frame of a page has no words any more, other pages have theirs
+-- if the frame of a page loses its words, other pages keep theirs
 others_words : (s : StoreState) (n m : ℕ) → IsStore s → m ≢ n
     → words_in (with_empty s.frames (frame_in (page_at s n))) (frame_in (page_at s m))
     ≡ words_in s.frames (frame_in (page_at s m))
@@ -172,7 +172,7 @@ module _ {h : HeapState} {p p0 : PlainHeap} (s : IsStore h.store) (k : Holds h p
             ∙ sym (ap (λ b. cond b None (object_at h a)) (ne_eqb (a / h.store.words) n d))
       ]
 
-  -- what a claim has, it had
+  -- a claim's extent was its extent before
   had : (c : Claim) (y : Extent) → extent (record h { store = with_released h.store n }) c ≡ Some y
       → extent h c ≡ Some y
   unfolding with_released
@@ -279,7 +279,7 @@ module _ {h : HeapState} {p p0 : PlainHeap} (s : IsStore h.store) (k : Holds h p
   }
 
 module _ {h : HeapState} {p p0 : PlainHeap} (s : IsStore h.store) (k : Holds h p p0) where
-  -- a page gives its memory up
+  -- a page is released
   pub release_holds : (w n : ℕ) → RowHolds h p p0 (Worker w) (steps.Release n) (release_outcome h n)
   unfolding release_outcome plain_step plain_answer
   release_holds w n = on_unless (is_idle h.phase) _ _ _ (λ busy.

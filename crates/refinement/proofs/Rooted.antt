@@ -1,4 +1,4 @@
--- The words of registers, barriers, globals and memory: what is written is read back.
+-- The references in registers, barriers, globals and memory: a reference that is written is read back.
 use Rattle.std.proofs.Common.{◌≡◌, ℕ, Bool, List, Option, Some, None, refl, ap, subst}
 use Rattle.std.specs.List.{slice_get}
 use Rattle.std.specs.Option.{IfSome}
@@ -26,7 +26,7 @@ word_there ws r k = go (slice_get ws r) refl
     go None e = tt
     go (Some w) e = k r w e
 
--- what a register holds
+-- the reference in a register
 pub register_word : (h : HeapState) (t r : ℕ) → HasWords h → IsWord (register_of h t r)
 unfolding register_of
 register_word h t r k = go (slice_get h.threads t) refl
@@ -35,7 +35,7 @@ register_word h t r k = go (slice_get h.threads t) refl
     go None e = tt
     go (Some x) e = word_there x.registers r (k.threads t x e).registers_hold
 
--- what a global holds
+-- the reference in a global
 pub global_word : (h : HeapState) (g : ℕ) → HasWords h → IsWord (global_of h g)
 unfolding global_of
 global_word h g k = go (slice_get h.globals g) refl
@@ -53,7 +53,7 @@ load_there h t x b k at e = go x.barrier e (k.threads t x at).barrier
     go None f l = absurd (cc)
     go (Some c) f l = subst (IsLoad h.config.registers) (same_Some _ _ f) l
 
--- what is read from memory
+-- a reference read from memory
 pub stored_word : (bits : ℕ) → IsWord (read_reference bits)
 stored_word bits = go (read_word bits) refl
   where
@@ -61,7 +61,7 @@ stored_word bits = go (read_word bits) refl
     go None e = tt
     go (Some w) e = read_word-is_word bits w e
 
--- a word that is written is read back
+-- a reference that is written is read back
 pub stored_again : (w : Reference) → IsWord w → read_reference (bits_of w) ≡ w
 stored_again w k = ap flat (reads_back w k)
 

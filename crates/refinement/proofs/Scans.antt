@@ -59,7 +59,7 @@ use Rattle.refinement.proofs.ObjectWords.{read_fits}
 use Rattle.refinement.proofs.Objects.{there}
 use Rattle.refinement.proofs.Verdicts.{second_false, field_there, field_past}
 
--- what workers scan then
+-- the scans of workers then
 scans : (h : HeapState) (w : ℕ) → w < length h.workers → (c : Option Scan) (u : ℕ)
     → scan_in (slice_get (set h.workers w c) u)
     ≡ put (λ v. scan_in (slice_get h.workers v)) w (option_map as_scan c) u
@@ -94,12 +94,12 @@ is_scanning h = on_truth (is_marking h.phase) _ _ _ (λ runs. by_found runs (fir
     by_found runs (Some t) e = tt
     by_found runs None e = record { runs = runs; crossed = none_is_behind h.threads e }
 
--- the word of a global, as the laws speak of it
+-- the reference in a global, in the laws' terms
 global_is : (h : HeapState) (g : ℕ) → (world_of h).global g ≡ as_word (global_of h g)
 unfolding global_of
 global_is h g = global_same (slice_get h.globals g)
 
--- a global gets a word, and is marked
+-- a global gets a reference, and isn't grey
 written_global : (h : HeapState) (g : ℕ) (w : Reference) (x : Global) → slice_get h.globals g ≡ Some x → IsWord w
     → Carries h (record h { globals = change_at h.globals g (set_marked_of w) })
     (λ z. end_global_scan g (set_global g (as_word w) z))
@@ -140,12 +140,12 @@ global_marked {h} s l i runs g low =
     ∙ ap (λ y. end_global_scan g (set_global g (edits.marked_word (world_of h) y) (mark_word y (world_of h))))
     (sym same))
 
--- a worker's object, as the laws speak of it
+-- a worker's object, in the laws' terms
 scan_same : (o : Option (Option Scan)) (c : Scan) → flat o ≡ Some c → scan_in o ≡ Some (as_scan c)
 scan_same None c e = absurd (cc)
 scan_same (Some s) c e = ap (option_map as_scan) e
 
--- an object that nobody has
+-- an object that no worker has
 untaken : (h : HeapState) (a l : ℕ) (z : WorkerScan) → is_taken h a ≡ false
     → scan_in (slice_get h.workers l) ≡ Some z → z.address ≢ a
 unfolding is_taken
@@ -187,7 +187,7 @@ module _ {h : HeapState} {p p0 : PlainHeap} (s : IsStore h.store) (d : IsHeap h)
     here : (q : HeapObject) × (object_at h c.object ≡ Some q)
     here = k.invariant.marks.object c.object is_marked
 
-    -- what a field of the object stands for
+    -- what a field of the object represents
     stands : (j : ℕ) → names (world_of h) (field here.0 j) ≡ Some (ref (births_of p) here.0.birth j)
     stands j =
         let v = world_of h in
@@ -231,7 +231,7 @@ module _ {h : HeapState} {p p0 : PlainHeap} (s : IsStore h.store) (d : IsHeap h)
         ∙ ap (λ y. after (edits.marked_word (world_of h) y) (mark_word y (world_of h))) (sym same))) (stays h p)
         (ScanField w (as_scan c) q i has here.1 within) tt
 
-    -- the object is done
+    -- the object's scan ends
     end_carries : Carries h (with_scan_end h w c) (end_scan w c.object)
     unfolding with_scan_end with_scan register_of
     end_carries = records_carry h (record (records_of h) {

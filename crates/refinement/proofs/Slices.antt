@@ -1,4 +1,4 @@
--- Lists by their places: a run of words, and words with others written over them.
+-- Lists by index: a run of words, and words with others written over them.
 use Rattle.std.proofs.Common.{◌≡◌, ℕ, zero, suc, ◌+◌, ◌-◌, ◌<◌, ◌≤◌, List, [], ◌∷◌, ◌++◌, length, take}
 use Rattle.std.proofs.Common.{drop, Some, replicate, refl, sym, ◌∙◌, ap, ap₂, arith, length-drop}
 use Rattle.std.specs.List.{slice_get}
@@ -53,7 +53,7 @@ run_same ws vs o n e h agree =
     (λ i l. let m : i < n = omega (arith, l, length_run vs o n (omega (arith, e, h))) in
     get_run vs o n i m ∙ agree (o + i) (omega arith) (omega (arith, m)) ∙ sym (get_run ws o n i m))
 
--- a run of one word again and again
+-- a run of equal words
 pub run_all : (ws : List ℕ) (o n v : ℕ) → o + n ≤ length ws → ((i : ℕ) → i < n → slice_get ws (o + i) ≡ Some v)
     → run ws o n ≡ replicate n v
 run_all ws o n v h k = all n (run ws o n) (length_run ws o n h) (λ i l. get_run ws o n i l ∙ k i l)
@@ -71,7 +71,7 @@ overlaid_at : (ws xs : List ℕ) (o i : ℕ) → i < length ws
     → slice_get (overlay ws o xs) i ≡ slice_get (take o ws ++ (xs ++ drop (length xs) (drop o ws))) i
 overlaid_at ws xs o i h = get_take (length ws) (take o ws ++ (xs ++ drop (length xs) (drop o ws))) i h
 
--- within the others, theirs
+-- among the others, theirs
 pub overlaid_in : (ws xs : List ℕ) (o i : ℕ) → o + length xs ≤ length ws → i < length xs
     → slice_get (overlay ws o xs) (o + i) ≡ slice_get xs i
 overlaid_in ws xs o i h l =
@@ -90,7 +90,7 @@ overlaid_before ws xs o i h l =
     overlaid_at ws xs o i (omega arith)
     ∙ get_first (take o ws) (xs ++ drop (length xs) (drop o ws)) i (omega (arith, size, l)) ∙ get_take o ws i l
 
--- and behind them
+-- after them, the old ones
 pub overlaid_behind : (ws xs : List ℕ) (o i : ℕ) → o + length xs ≤ length ws → o + length xs ≤ i → i < length ws
     → slice_get (overlay ws o xs) i ≡ slice_get ws i
 overlaid_behind ws xs o i h l m =

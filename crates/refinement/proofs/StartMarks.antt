@@ -37,7 +37,7 @@ use Rattle.refinement.proofs.Carrying.{Carries, RowHolds, row_by, stays}
 use Rattle.refinement.proofs.Records.{records_of, records_carry}
 use Rattle.refinement.proofs.References.{less_is}
 
--- what a change of all elements leaves of each
+-- a property of each element that a change of all keeps
 pub kept_of_all : {X B : Type 0} (P : Option X → B) (xs : List X) (f : X → X)
     → ((x : X) → P (Some (f x)) ≡ P (Some x)) → (u : ℕ) → P (slice_get (map f xs) u) ≡ P (slice_get xs u)
 kept_of_all {X} P xs f h u = ap P (slice_get-map f xs u) ∙ here (slice_get xs u)
@@ -55,7 +55,7 @@ each_of_all {X} P (x ∷ xs) f h k zero y e = by_equal (cc) (h x (k zero x refl)
     by_equal e z = subst P e z
 each_of_all P (x ∷ xs) f h k (suc i) y e = each_of_all P xs f h (λ j z g. k (suc j) z g) i y e
 
--- all globals that are there are to be marked
+-- all globals that exist are grey
 todo_of_all : (gs : List Global) (g : ℕ) → todo_in (slice_get (map set_todo_of gs) g) ≡ nat_lt g (length gs)
 todo_of_all [] g = grind (arith, nat_tests)
 todo_of_all (x ∷ gs) zero = sym (less_is zero (suc (length gs)) (omega arith))
@@ -119,7 +119,7 @@ in_phase MarkCrossing e = absurd (cc)
 in_phase Scanning e = absurd (cc)
 in_phase ProtectCrossing e = absurd (cc)
 
--- where all have to cross, the first thread has
+-- if no thread has crossed, the first one hasn't
 pub first_waits : (threads : List ThreadState) → 1 ≤ length threads
     → has_crossed (slice_get (map (set_crossed_of false) threads) 0) ≡ false
 first_waits [] m = absurd (omega (arith, m))

@@ -1,4 +1,4 @@
--- Every accepted step keeps what stands.
+-- Every accepted step keeps that the heap represents a reference model.
 use Rattle.std.proofs.Common.{◌≡◌, ℕ}
 use Rattle.model.specs.declared.steps.Actor.{Actor}
 use Rattle.model.specs.declared.steps.Actor.TheVariants.{Thread, Worker}
@@ -37,7 +37,7 @@ use Rattle.refinement.proofs.Moving as moving
 use Rattle.refinement.proofs.WholePages.{copy_page_holds}
 use Rattle.refinement.proofs.Releases.{release_holds}
 
--- the row of a thread's step
+-- the outcome of a thread's step
 row_holds : (h : HeapState) (p p0 : PlainHeap) (t : ℕ) (step : Step) → IsStore h.store → IsHeap h → Holds h p p0
     → Passed h t step → RowHolds h p p0 (Thread t) step (thread_row h t step)
 row_holds h p p0 t (steps.Take n) s d k g = take_holds s d k t n g
@@ -62,7 +62,7 @@ row_holds h p p0 t steps.Park s d k g = park_holds s d k t g
 row_holds h p p0 t steps.Unpark s d k g = unpark_holds s d k t g
 row_holds h p p0 t _ s d k g = tt
 
--- the row of a worker's step
+-- the outcome of a worker's step
 worker_holds : (h : HeapState) (p p0 : PlainHeap) (w : ℕ) (step : Step) → IsStore h.store → IsHeap h → Holds h p p0
     → WorkerPassed h w step → RowHolds h p p0 (Worker w) step (worker_row h w step)
 worker_holds h p p0 w steps.StartMark s d k g = start_mark_holds s d k w
@@ -92,7 +92,7 @@ step_holds h p p0 actor step g answer s d k e = of_accepted
     (λ (z : HeapState × Answer). StepHolds h p p0 actor step z.0 z.1) (outcome h actor step) (g, answer)
     (outcome_holds h p p0 actor step s d k) e
 
--- what a mark that ends has found
+-- the promises of a mark that ends
 ended_holds : (h : HeapState) (p p0 : PlainHeap) (actor : Actor) → IsStore h.store → Holds h p p0
     → OnAccepted (λ (z : HeapState × Answer). FindsLive z.0 p p0 × PlannedIsUnreachable (world_of h) (births_of p))
     (outcome h actor steps.EndMark)

@@ -16,7 +16,7 @@ use Rattle.page.proofs.Found.{room_found, room_passes, position_within, free_fou
 use Rattle.page.proofs.Found.{free_within, free_counts, unused_found, room_within}
 use Rattle.page.proofs.Keeping.{all_have_records}
 
--- n words of an open page with room
+-- n words of an open page with space
 pub record InOpenPage (s : StoreState) (n : ℕ) (x : StoreState × Buffer) : Type 0 where
   pub index : ℕ
   pub page : Page

@@ -1,4 +1,4 @@
--- Accepted steps count in the tallies of threads: each opening or change of a barrier one, and no other step any.
+-- Accepted steps and barrier counters: each opening or change of a barrier increments one, and no other step any.
 use Rattle.std.proofs.Common.{◌≡◌, ℕ, zero, suc, ◌-◌, ◌&&◌, ◌||◌, ◌*◌, ◌+◌, Bool, true, false, cond, not}
 use Rattle.std.proofs.Common.{nat_le, nat_lt, is_some, Option, Some, None, length, refl, ap, ◌∙◌, List}
 use Rattle.std.specs.List.{slice_get, list_any}
@@ -68,20 +68,20 @@ use Rattle.refinement.proofs.Accepted.{on_test, on_truth, on_either, on_unless}
 use Rattle.refinement.proofs.Changes.{get_changed, kept_of}
 use Rattle.refinement.proofs.StartMarks.{kept_of_all}
 
--- an accepted row leaves all tallies
+-- an accepted outcome leaves all counters
 abbrev Stays : HeapState → Outcome → Type 0
 Stays h o = OnAccepted (λ (z : HeapState × Answer). TalliesStay h z.0) o
 
--- an accepted row of a thread's step counts so
+-- an accepted outcome of a thread's step counts so
 abbrev Counts : HeapState → ℕ → Step → Outcome → Type 0
 Counts h t step o = OnAccepted (λ (z : HeapState × Answer). CountsOne h t (counter_of step z.1) z.0) o
 
--- the tallies of threads of which one is changed, and not its tally
+-- the counters of threads after one is changed, but not its counters
 stay : (xs : List ThreadState) (t : ℕ) (f : ThreadState → ThreadState) → ((x : ThreadState) → (f x).tally ≡ x.tally)
     → (u : ℕ) → tally_in (slice_get (change_at xs t f) u) ≡ tally_in (slice_get xs u)
 stay xs t f same u = kept_of tally_in xs t f (λ x. ap Some (same x)) u
 
--- where all tallies stay, none counts
+-- if all counters stay, none counts
 nothing : (h g : HeapState) (t : ℕ) → TalliesStay h g → CountsOne h t None g
 nothing h g t s = record { own = s t ∙ same (tally_of_thread h t); others = λ u d. s u }
   where
@@ -107,7 +107,7 @@ one h t b c = record {
     same None = refl
     same (Some x) = refl
 
--- the same, of a heap with the threads of h
+-- the same for a heap with the threads of h
 one_behind : (h g : HeapState) (t : ℕ) (b : Barrier) (c : Counter) → g.threads ≡ h.threads
     → CountsOne h t (Some c) (with_barrier g t b c)
 unfolding with_barrier
@@ -118,7 +118,7 @@ one_behind h g t b c e =
       others = λ u d. k.others u d ∙ ap (λ ts. tally_in (slice_get ts u)) e;
     }
 
--- an object that is copied leaves the threads
+-- copying an object leaves the threads
 first_threads : (h : HeapState) (a : ℕ) → (copied_first h a).threads ≡ h.threads
 unfolding copied_first with_copy
 first_threads h a = by_entry (entry_at h a)
@@ -137,7 +137,7 @@ for_threads h None = refl
 for_threads h (Some w) = first_threads h w.0
 
 module _ (h : HeapState) (t : ℕ) where
-  -- a register gets a word
+  -- a register gets a reference
   register_stays : (g : HeapState) (r : ℕ) (w : Reference) → g.threads ≡ h.threads
       → TalliesStay h (with_register g t r w)
   unfolding with_register
@@ -289,7 +289,7 @@ module _ (h : HeapState) (t : ℕ) where
       stay (with_marked_registers h t (marked_at_crossing h)).threads t (set_crossed_of true) (λ x. refl) v
       ∙ marked_stays (marked_at_crossing h) v)
 
-  -- a row that leaves all tallies, of a step that counts nothing whatever its answer
+  -- an outcome that leaves all counters, of a step that counts nothing with any answer
   quiet : (step : Step) (o : Outcome) → ((a : Answer) → counter_of step a ≡ None) → Stays h o → Counts h t step o
   quiet step (Ok x) none s = by_counter (counter_of step x.1) (none x.1)
     where
@@ -321,7 +321,7 @@ thread_counts h t steps.Park = quiet h t steps.Park _ (λ a. refl) (park_stays h
 thread_counts h t steps.Unpark = quiet h t steps.Unpark _ (λ a. refl) (unpark_stays h t)
 thread_counts h t _ = tt
 
--- targets leave the threads
+-- opening targets leaves the threads
 targets_threads : (k : ℕ) (h : HeapState) → (with_targets k h).0.threads ≡ h.threads
 unfolding with_target
 targets_threads zero h = refl
@@ -346,7 +346,7 @@ after_stays h page e = by_outcome (copy_outcome h page e) (copy_stays h page e)
     by_outcome (Ok z) s = s
     by_outcome (Err n) s = λ u. refl
 
--- so are many
+-- so do copies of many
 copies_stay : (h : HeapState) (page e k : ℕ) → TalliesStay h (copies_from h page e k)
 copies_stay h page e zero u = refl
 copies_stay h page e (suc k) u =

@@ -1,4 +1,4 @@
--- Targets: pages that are opened for what is planned, wholly given out and to nobody. What was in the heap stays.
+-- Targets: pages that are opened for a plan, given out completely, and to nobody. What was in the heap stays.
 use Rattle.std.proofs.Common.{◌≡◌, ◌≢◌, ◌⊎◌, inl, inr, ℕ, zero, suc, ◌+◌, ◌*◌, ◌<◌, ◌≤◌}
 use Rattle.std.proofs.Common.{List, [], ◌∷◌, length, set, cond, replicate, Option, Some}
 use Rattle.std.proofs.Common.{None}
@@ -40,7 +40,7 @@ use Rattle.refinement.proofs.Buffers.{each_set_again, blank_rows}
 
 -- one target
 
--- the heap with page i + 1 opened on frame f, and wholly given out
+-- the heap with page i + 1 opened on frame f, and given out completely
 abbrev pub target_heap : HeapState → ℕ → ℕ → HeapState
 target_heap h i f = raised (opened_heap h i f) i (fresh_page f) h.store.words
 
@@ -150,7 +150,7 @@ module _ (h : HeapState) (p p0 : PlainHeap) (s : IsStore h.store) (d : Each h.th
         world = c.world ∙ opened_world s d k.laid k.invariant.objects k.invariant.marks may;
       }
 
-  -- a heap with a target stands for what it stood for
+  -- a heap with a target represents what it did
   target_holds : Holds after p p0
   target_holds = step_by k target_carries (stays h p)
       (TakeFresh (on_page h x.index) (was_unused s d k.laid k.invariant.objects k.invariant.marks may))
@@ -158,7 +158,7 @@ module _ (h : HeapState) (p p0 : PlainHeap) (s : IsStore h.store) (d : Each h.th
   state_was : (n : ℕ) → n ≡ x.index + 1 → state_at h.store n ≡ Unused
   state_was n e = ap (state_at h.store) e ∙ opened.state s d k.laid k.invariant.objects k.invariant.marks may
 
-  -- the state of a page, as the store has it
+  -- the state of a page, by the store
   state_now : (n : ℕ) → state_at after.store n ≡ cond (nat_eq n (x.index + 1)) Open (state_at h.store n)
   state_now n = raising.states (opened_heap h x.index x.frame) x.index (fresh_page x.frame) h.store.words at refl n
       ∙ opened.page_states s d k.laid k.invariant.objects k.invariant.marks may n
@@ -226,7 +226,7 @@ module _ (h : HeapState) (p p0 : PlainHeap) (s : IsStore h.store) (d : Each h.th
       once zero (suc j) n e f = absurd (cc)
       once (suc i) j n e f = absurd (cc)
 
--- targets behind a target
+-- targets after a target
 more_targets : (h g m : HeapState) (t : ℕ) (ts : List ℕ) → HasTargets h g (t ∷ []) → HasTargets g m ts
     → HasTargets h m (t ∷ ts)
 more_targets h g m t ts a b = record {
@@ -286,7 +286,7 @@ more_targets h g m t ts a b = record {
     once (suc i) zero n e f = absurd (other n (at_in n ts i e) (same_Some _ _ f))
     once (suc i) (suc j) n e f = ap suc (b.once i j n e f)
 
--- so many targets are opened, and the heap stands for what it stood for
+-- k targets are opened, and the heap represents what it did
 pub record TargetsHold (h : HeapState) (k : ℕ) (x : HeapState × List ℕ) (p p0 : PlainHeap) : Type 0 where
   pub targets : HasTargets h x.0 x.1
   pub holds : Holds x.0 p p0

@@ -1,4 +1,4 @@
--- A thread is changed, or a global: what the heap by addresses becomes, and that memory stays in order.
+-- A thread is changed, or a global: the effect on the address-level model, and that memory stays in order.
 use Rattle.std.proofs.Common.{◌≡◌, ℕ, ◌<◌, nat_lt, Bool, length, Some, None, refl, ◌∙◌, ap, arith, Option}
 use Rattle.std.specs.List.{slice_get}
 use Rattle.std.specs.Option.{option_map}
@@ -32,7 +32,7 @@ use Rattle.refinement.proofs.Rooted.{buffer_holds_words, register_holds_words, b
 use Rattle.refinement.proofs.Rooted.{loaded_holds_words, parked_holds_words}
 use Rattle.refinement.proofs.Changes.{register_changed}
 
--- a change that leaves how many registers a thread has, and its buffer, or lets it go
+-- a change that keeps the number of a thread's registers, and its buffer unless it gives it back
 record KeepsShape (f : ThreadState → ThreadState) : Type 0 where
   pub buffer : (y : ThreadState) (b : Buffer) → (f y).buffer ≡ Some b → y.buffer ≡ Some b
   pub size : (y : ThreadState) → length (f y).registers ≡ length y.registers
@@ -61,7 +61,7 @@ thread_laid h t f k l = record {
     by_buffer y z None e g = absurd (none-some z g)
     by_buffer y z (Some b) e g = ap (option_map (buffer_extent h.store.words)) (k.buffer y b e) ∙ g
 
-    -- what a claim has now, it had
+    -- a claim's extent was its extent before
     had : (c : Claim) (x : Extent) → extent (record h { threads = change_at h.threads t f }) c ≡ Some x
         → extent h c ≡ Some x
     had (OfObject a) x e = e
@@ -71,7 +71,7 @@ thread_laid h t f k l = record {
     had (OfEnd n) x e = e
 
 module _ (h : HeapState) (t : ℕ) (x : ThreadState) (at : slice_get h.threads t ≡ Some x) where
-  -- a register gets a word
+  -- a register gets a reference
   register_world : (r : ℕ) (w : Reference) → r < length x.registers
       → world_of (with_register h t r w) ≡ set_register t r (as_word w) (world_of h)
   unfolding with_register register_of
@@ -91,7 +91,7 @@ module _ (h : HeapState) (t : ℕ) (x : ThreadState) (at : slice_get h.threads t
       (λ y. register_holds_words h.config.registers r w y word)
       (register_world r w (omega (arith, low, l.registers t x at)))
 
-  -- a barrier is opened or changed; the heap by addresses has no tallies
+  -- a barrier is opened or changed; the address-level model has no counters
   barrier_world : (b : Barrier) (c : Counter) → world_of (with_barrier h t b c)
       ≡ set_barrier t (as_barrier b) (world_of h)
   unfolding with_barrier register_of
@@ -163,7 +163,7 @@ module _ (h : HeapState) (t : ℕ) (x : ThreadState) (at : slice_get h.threads t
       (thread_laid h t (set_buffer_of None) (record { buffer = λ y b e. absurd (none-some b e); size = λ y. refl }))
       (buffer_holds_words h.config.registers None) (buffer_world None)
 
--- a global gets a word
+-- a global gets a reference
 global_world : (h : HeapState) (g : ℕ) (x : Global) (w : Reference) → slice_get h.globals g ≡ Some x
     → world_of (with_global h g w) ≡ set_global g (as_word w) (world_of h)
 unfolding with_global register_of

@@ -1,4 +1,4 @@
--- Words that name protected pages are corrected: by the traps of a load, and in registers. A trap is never due twice.
+-- References to protected pages are corrected: by the traps of a load, and in registers. A trap is never due twice.
 use Rattle.std.proofs.Common.{◌≡◌, inl, inr, ℕ, ◌/◌, Bool, true, false, cond, Option, Some, None, refl, sym, ◌∙◌}
 use Rattle.std.proofs.Common.{ap, subst}
 use Rattle.std.specs.List.{slice_get}
@@ -37,14 +37,14 @@ use Rattle.refinement.proofs.Copies.{same_entry}
 use Rattle.refinement.proofs.Moving.{Leads, leads, held_protected, gc_holds, scrub_word_holds}
 use Rattle.refinement.proofs.Verdicts.{Passed, is_register}
 
--- what isn't on a protected page may be used
+-- an address that isn't on a protected page may be used
 free_there : (t : ℕ) (g : HeapState) (a : ℕ) → is_protected (state_at g.store (a / g.store.words)) ≡ false
     → is_refused (let_through g t a) ≡ false
 unfolding let_through
 free_there t g a e = rw e refl
 
 module _ {h : HeapState} {p p0 : PlainHeap} (k : Holds h p p0) (t : ℕ) where
-  -- while a mark runs, who may use an address isn't held back from a protected page
+  -- while a mark runs, an address that a thread may use isn't on a protected page
   not_held : (a : ℕ) → is_refused (let_through h t a) ≡ false → is_marking h.phase ≡ true
       → is_protected (state_at h.store (a / h.store.words)) ≡ false
   unfolding let_through
@@ -76,7 +76,7 @@ module _ {h : HeapState} {p p0 : PlainHeap} (k : Holds h p p0) (t : ℕ) where
           by_copied true c = absurd (true≢false (sym (k.invariant.objects.copied_from a f.to
               (same_entry h a ∙ ap as_entry e ∙ ap (λ b. worlds.entry_of b f.to) c)) ∙ free))
 
-  -- nothing is copied for a word whose address may be used
+  -- nothing is copied for a reference whose address may be used
   pub copies_nothing : (v : Reference) → gc_trap_due h t v ≡ false → is_marking h.phase ≡ true → copied_for h v ≡ h
   unfolding copied_for copied_first
   copies_nothing None f m = refl
@@ -92,7 +92,7 @@ module _ {h : HeapState} {p p0 : PlainHeap} (k : Holds h p p0) (t : ℕ) where
               (k.invariant.objects.planned_from a f'.to
               (same_entry h a ∙ ap as_entry e ∙ ap (λ b. worlds.entry_of b f'.to) c))) ∙ not_held a f m))
 
-  -- behind an NMT trap none is due
+  -- after an NMT trap none is due
   pub marked_free : (b c : Barrier) → gc_trap_due h t b.now ≡ false → nmt_trap_due h t b.now ≡ true
       → gc_trap_due (with_barrier (with_mark (copied_for h b.now) b.now) t c counters.Nmt) t
       (marked_word (copied_for h b.now) b.now) ≡ false
@@ -111,14 +111,14 @@ module _ {h : HeapState} {p p0 : PlainHeap} (k : Holds h p p0) (t : ℕ) where
           unprotected)
 
 module _ {h : HeapState} {p p0 : PlainHeap} (s : IsStore h.store) (d : IsHeap h) (k : Holds h p p0) (t : ℕ) where
-  -- a load's word is forwarded, or marked, or neither is due
+  -- a load's reference is forwarded, or marked, or neither is due
   pub trap_holds : (x : ThreadState) → slice_get h.threads t ≡ Some x
       → RowHolds h p p0 (Thread t) steps.Trap (trap_outcome h t)
   unfolding trap_outcome
   trap_holds x at = on_some (barrier_of_thread h t) _ _ _ (λ b first.
       on_either (gc_trap_due h t b.now) _ _ _ (gc_holds s k d t x at b first) (λ clear. nmt_holds s d k t x at b first))
 
-  -- behind a GC trap none is due: its word names an open page
+  -- after a GC trap none is due: its reference leads to an open page
   pub moved_free : (x : ThreadState) → slice_get h.threads t ≡ Some x → (b c : Barrier) (w : ℕ × Bool)
       → barrier_of_thread h t ≡ Some b → b.now ≡ Some w → gc_trap_due h t b.now ≡ true
       → gc_trap_due (with_barrier (copied_first h w.0) t c counters.Gc) t (Some (moved_word h w)) ≡ false

@@ -1,4 +1,4 @@
--- What an accepted step has passed: the tests before its row, and those of the row.
+-- What an accepted step has passed: the general tests, and those of its own outcome.
 use Rattle.std.proofs.Common.{◌≡◌, ◌⊎◌, inl, inr, ℕ, ◌+◌, ◌/◌, ◌%◌, ◌<◌, ◌≤◌, ◌&&◌, ◌||◌, arith, Bool, true, false, not}
 use Rattle.std.proofs.Common.{cond, length, nat_le, nat_lt, Option, Some, None, refl, sym, ◌∙◌, ap}
 use Rattle.std.specs.Prelude.{Ok}
@@ -25,7 +25,7 @@ use Rattle.refinement.proofs.Accepted.{OnAccepted, on_has, on_test}
 use Rattle.refinement.proofs.ObjectWords.{read_refs, read_data}
 use Rattle.refinement.proofs.Objects.{IsThere, there}
 
--- the tests before a row
+-- the general tests
 
 pub record Passed (h : HeapState) (t : ℕ) (s : Step) : Type 0 where
   pub thread : ThreadState
@@ -63,7 +63,7 @@ passed h t s = on_test (nat_le (length h.threads) t || is_for_workers s) _ _ _ (
           (ap is_loading_in (sym at) ∙ unless (is_loading_in (slice_get h.threads t)) (is_for_loading s) d f);
     }))))
 
--- the tests before a row of a worker
+-- the general tests of a worker's step
 pub record WorkerPassed (h : HeapState) (w : ℕ) (s : Step) : Type 0 where
   pub worker : w < length h.workers
   pub indices : has_bad_index h s ≡ false
@@ -88,7 +88,7 @@ pub is_global : (h : HeapState) (g : ℕ) → no_global h g ≡ false → g < le
 unfolding no_global
 is_global h g e = leb-false (length h.globals) g e
 
--- a thread that isn't loading has no barrier in the heap by addresses
+-- a thread that isn't loading has no barrier in the address-level model
 pub closed_barrier : {h : HeapState} {t : ℕ} {s : Step} (g : Passed h t s) → is_for_loading s ≡ false
     → (world_of h).barrier t ≡ None
 closed_barrier g e = ap barrier_in g.there ∙ ap (option_map as_barrier) (g.closed e)
@@ -143,13 +143,13 @@ null_or_used h t r = by_word (register_of h t r) refl
 
 -- data
 
--- the layout of an object that is there
+-- the layout of an object that exists
 pub shape_there : (h : HeapState) (a : ℕ) (q : HeapObject) (t : IsThere h a q) → layout_at h a ≡ Some t.read.shape
 unfolding layout_at
 shape_there h a q t = ap (λ o. layout_in h.config.layouts (header_layout o)) (word_on_page h.store a
     ∙ ap (option_and_then (λ ws. slice_get ws (a % h.store.words))) t.page ∙ t.read.at) ∙ t.read.known
 
--- where a reference of an object stands
+-- the place of a reference of an object
 pub field_there : (h : HeapState) (a : ℕ) (q : HeapObject) (e : object_at h a ≡ Some q) (i place : ℕ)
     → field_at h a i ≡ Some place → (i < length q.refs) × (a + (1 + i) ≡ place)
 unfolding field_at
@@ -168,7 +168,7 @@ field_there h a q e i place f =
         let refs = read_refs h.config.layouts t.words (a % h.store.words) q t.read in
         (omega (arith, low, refs), omega (arith, spot))
 
--- an object has no reference behind its last
+-- an object has no reference after its last
 pub field_past : (h : HeapState) (a : ℕ) (q : HeapObject) (e : object_at h a ≡ Some q) (i : ℕ) → field_at h a i ≡ None
     → length q.refs ≤ i
 unfolding field_at
@@ -187,7 +187,7 @@ field_past h a q e i f = by_test (nat_lt i t.read.shape.refs) refl (sym (ap (fie
       read_refs h.config.layouts t.words (a % h.store.words) q t.read,
     )
 
--- where a datum of an object stands
+-- the place of a datum of an object
 pub datum_there : (h : HeapState) (a : ℕ) (q : HeapObject) (e : object_at h a ≡ Some q) (j place : ℕ)
     → datum_at h a j ≡ Some place → (j < length q.data_words) × (a + (1 + length q.refs + j) ≡ place)
 unfolding datum_at

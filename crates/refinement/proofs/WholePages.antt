@@ -1,4 +1,4 @@
--- All objects of a page are copied: it is as Copy of each of its entries, one after the other.
+-- All objects of a page are copied: it has the effect of Copy of each of its entries in turn.
 use Rattle.std.proofs.Common.{◌≡◌, ℕ, zero, suc, ◌+◌, ◌*◌, ◌/◌, ◌%◌, List, [], length, not, cond, nat_eq, refl, ◌∙◌}
 use Rattle.std.specs.Prelude.{Ok, Err}
 use Rattle.model.specs.declared.steps.Actor.TheVariants.{Worker}
@@ -23,13 +23,13 @@ use Rattle.refinement.proofs.Carrying.{RowHolds}
 use Rattle.refinement.proofs.MovingPhases.{Stays, copy_stays}
 use Rattle.refinement.proofs.Moving as moving
 
--- a heap that was copied in has what it had
+-- a heap after copies keeps what it had
 record IsKept (h : HeapState) (p p0 : PlainHeap) (g : HeapState) : Type 0 where
   config : g.config ≡ h.config
   store : IsStore g.store
   holds : Holds g p p0
 
--- a copied object leaves what holds of the store
+-- copying an object keeps the store's invariant
 copied_keeps : (s : StoreState) (a to n : ℕ) → IsStore s → IsStore (with_copied_words s a to n)
 unfolding with_copied_words
 copied_keeps s a to n h = words_keep s (to / s.words)

@@ -1,4 +1,4 @@
--- The object that a usable register names lies whole on its page; and pages that references name have records.
+-- The object of a usable register lies completely on its page; and the pages of references have records.
 use Rattle.std.proofs.Common.{◌≡◌, ℕ, zero, suc, ◌+◌, ◌-◌, ◌/◌, ◌%◌, ◌^◌, ◌<◌, ◌≤◌, nat_le, Bool, true, false, List, [], ◌∷◌}
 use Rattle.std.proofs.Common.{length, get_or, Option, Some, None, refl, sym, ◌∙◌, ap, subst, arith, leb-true}
 use Rattle.std.specs.Prelude.{Ok, IfSome, slice_get}
@@ -64,7 +64,7 @@ object_recorded h a q s e =
     let page = page_used h.store (a / h.store.words) k.words s k.page in
     omega (arith, slice_get_within h.store.pages (a / h.store.words - 1) page.0 page.1)
 
--- so is what an address names, directly or by its side entry
+-- so is the address of a reference, directly or by its entry
 named_recorded : (h : HeapState) (a : ℕ) (b : Bool) (x : Option ℕ) → IsStore h.store → AreSidesOf h.store h.sides
     → names_of (world_of h) (To a b) ≡ Some x → IsRecorded h.store a
 named_recorded h a b x s sides named = by_place (nat_le (a / h.store.words) (length h.store.pages)) refl

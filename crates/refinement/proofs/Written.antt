@@ -41,7 +41,7 @@ module _ (h : HeapState) (s : IsStore h.store) (l : IsLaid h) (a : ℕ) (q : Hea
   abbrev t : IsThere h a q
   t = there h a q e
 
-  -- where the word stands
+  -- the place of the word
   abbrev place : ℕ
   place = a + k
 
@@ -57,7 +57,7 @@ module _ (h : HeapState) (s : IsStore h.store) (l : IsLaid h) (a : ℕ) (q : Hea
   place_offset : k < object_size q → place % h.store.words ≡ a % h.store.words + k
   place_offset m = (within_page h.store.words a k (inside m)).1
 
-  -- the word that stands there
+  -- the word at the place
   pub word_there : k < object_size q → word_at h.store place ≡ slice_get t.words (a % h.store.words + k)
   word_there m = word_on_page h.store place ∙ ap₂ (λ o n. option_and_then (λ ws. slice_get ws n) o)
       (ap (words_at h.store) (place_page m) ∙ t.page) (place_offset m)
@@ -207,7 +207,7 @@ module _ (h : HeapState) (s : IsStore h.store) (l : IsLaid h) (a : ℕ) (q : Hea
       subst (λ m. Carries h (record h { store = with_word h.store m v }) (set_object a (with_datum q j v))) spot
       (written_carries h s l a q e (1 + length q.refs + j) v (with_datum q j v) (datum_write h a q e j v low))
 
-  -- a reference gets a word
+  -- a reference of an object is written
   pub field_carries : (i n : ℕ) (w : Reference) → IsWord w → i < length q.refs → a + (1 + i) ≡ n
       → Carries h (record h { store = with_word h.store n (bits_of w) }) (set_object a (with_field q i (as_word w)))
   field_carries i n w word low spot =

@@ -1,5 +1,5 @@
--- What lies where in memory: the runs of addresses that objects, buffers, planned places and the free ends of open
--- pages have, of which no two overlap.
+-- The layout of memory: the extents of objects, buffers, planned places and the free ends of open pages, of which no
+-- two overlap.
 use Rattle.std.specs.Prelude.{◌≡◌, ◌⊎◌, ◌<◌, ◌≤◌, ◌+◌, ◌*◌, ◌%◌, ℕ, true, false, List, length, Option, Some}
 use Rattle.std.specs.Prelude.{None, option_map, if◌then◌else◌}
 use Rattle.model.specs.declared.records.Forwarding.{Forwarding}
@@ -15,23 +15,23 @@ use Rattle.laws.specs.AddressHeap.{HeapObject, SideEntry, Planned}
 use Rattle.model.specs.Bits.{bit_at}
 use Rattle.refinement.specs.Worlds.{world_of, object_at}
 
--- who has words of memory
+-- an owner of words of memory
 pub data Claim : Type 0 where
   OfObject : (address : ℕ) → Claim
   OfBuffer : (thread : ℕ) → Claim
-  OfPlan : (address : ℕ) → Claim  -- the place that the object at an address will be copied to
+  OfPlan : (address : ℕ) → Claim  -- the planned place of the object at an address
   OfEnd : (page : ℕ) → Claim  -- the words of an open page that were not given out
 
--- the addresses from one up to another
+-- the addresses from one up to another, exclusive
 pub record Extent : Type 0 where
   pub from : ℕ
   pub upto : ℕ
 
--- how many words an object has: its header, its references and its data
+-- the number of words of an object: its header, its references and its data
 abbrev pub object_size : HeapObject → ℕ
 object_size o = 1 + length o.refs + length o.data_words
 
--- how many words the object at an address has
+-- the number of words of the object at an address
 abbrev pub size_at : HeapState → ℕ → Option ℕ
 size_at h a = option_map object_size (object_at h a)
 
@@ -39,12 +39,12 @@ size_at h a = option_map object_size (object_at h a)
 abbrev pub sized_extent : ℕ → ℕ → Extent
 sized_extent a n = record { from = a; upto = a + n }
 
--- where an object of this size will be copied to, if it is planned
+-- the planned place of an object of this size, if it is planned
 abbrev pub planned_extent : SideEntry → Option ℕ → Option Extent
 planned_extent (Planned to) size = option_map (sized_extent to) size
 planned_extent _ size = None
 
--- the rest of a buffer, in pages of so many words
+-- the rest of a buffer, by the number of words of a page
 abbrev pub buffer_extent : ℕ → Buffer → Extent
 buffer_extent words b = record { from = b.page * words + b.next; upto = b.page * words + b.end }
 
@@ -54,14 +54,14 @@ end_extent words n None = None
 end_extent words n (Some p) =
     if is_open p.state then Some (record { from = n * words + p.top; upto = n * words + words }) else None
 
--- the addresses that a claim has
+-- the addresses of a claim
 abbrev pub extent : HeapState → Claim → Option Extent
 extent h (OfObject a) = option_map (sized_extent a) (size_at h a)
 extent h (OfBuffer t) = option_map (buffer_extent h.store.words) (buffer_of_thread h t)
 extent h (OfPlan a) = planned_extent ((world_of h).side_entry a) (size_at h a)
 extent h (OfEnd n) = end_extent h.store.words n (page_at h.store n)
 
--- one ends where the other begins, or before
+-- one ends before the other begins
 abbrev pub AreApart : Extent → Extent → Type 0
 AreApart x y = (x.upto ≤ y.from) ⊎ (y.upto ≤ x.from)
 
@@ -69,7 +69,7 @@ AreApart x y = (x.upto ≤ y.from) ⊎ (y.upto ≤ x.from)
 abbrev pub Apart : (Claim → Option Extent) → Type 0
 Apart e = (c d : Claim) (x y : Extent) → e c ≡ Some x → e d ≡ Some y → (c ≡ d) ⊎ AreApart x y
 
--- each page of a store has a side array
+-- each page of a store has a forwarding table
 abbrev pub AreSidesOf : StoreState → List (List Forwarding) → Type 0
 AreSidesOf s sides = AreSides (length s.pages) s.words sides
 
@@ -81,14 +81,14 @@ pub record IsLaid (h : HeapState) : Type 0 where
   pub todo : AreRowsOf h.store h.todo
   pub sides : AreSidesOf h.store h.sides
   pub registers : Each h.threads (λ t. length t.registers ≡ h.config.registers)
-  -- where an object is said to start on a page with memory, there is one
+  -- there is an object at each start bit on a page with memory
   pub objects : (a : ℕ) → bit_at h.starts h.store.words a ≡ true → has_memory ((world_of h).page_state a) ≡ true
       → (o : HeapObject) × (object_at h a ≡ Some o)
   pub apart : Apart (extent h)
   -- a planned place lies in one page
   pub planned : (a n : ℕ) (o : HeapObject) → (world_of h).side_entry a ≡ Planned n → object_at h a ≡ Some o
       → n % h.store.words + object_size o ≤ h.store.words
-  -- what is live on a page with memory is an object
+  -- there is an object at each live bit on a page with memory
   pub live_objects : (a : ℕ) → bit_at h.live h.store.words a ≡ true → has_memory ((world_of h).page_state a) ≡ true
       → (o : HeapObject) × (object_at h a ≡ Some o)
   -- nothing is live on an unused page

@@ -1,4 +1,4 @@
--- The plain heap of the model, as functions of births and numbers.
+-- The reference model of `model`, as functions of births and numbers.
 use Rattle.std.specs.Prelude.{◌≡◌, ℕ, List, [], length, Option, Some, None, option_map, slice_get}
 use Rattle.model.specs.States.{flat, HeapState}
 use Rattle.model.specs.Owning.{Each}
@@ -20,11 +20,11 @@ abbrev pub data_in : Option Object → List ℕ
 data_in None = []
 data_in (Some o) = o.data_words
 
--- a load, as the laws speak of it
+-- a load, in the laws' terms
 abbrev pub as_pair : Pending → ℕ × Option ℕ
 as_pair l = (l.target, l.found)
 
--- the plain heap as the laws speak of it
+-- the reference model, in the laws' terms
 abbrev pub births_of : PlainHeap → BirthHeap
 births_of p = record {
   births = length p.objects;
@@ -36,7 +36,7 @@ births_of p = record {
   global = λ g. flat (slice_get p.globals g);
 }
 
--- the plain heap has the threads, registers and globals of a heap
+-- the reference model has the threads, registers and globals of a heap
 pub record HasRootsOf (h : HeapState) (p : PlainHeap) : Type 0 where
   pub threads : length p.threads ≡ length h.threads
   pub registers : Each p.threads (λ t. length t.registers ≡ h.config.registers)

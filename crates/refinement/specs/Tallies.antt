@@ -1,4 +1,4 @@
--- What accepted steps count in the tallies of threads.
+-- The effect of accepted steps on the barrier counters of threads.
 use Rattle.std.specs.Prelude.{◌≡◌, ◌≢◌, ℕ, Option, Some, None, option_map, Ok}
 use Rattle.model.specs.declared.records.Counter.{Counter}
 use Rattle.model.specs.declared.records.Tally.{Tally}
@@ -11,26 +11,26 @@ use Rattle.model.specs.Loads.{tally_of_thread}
 use Rattle.model.specs.Tallies.{counted, counter_of}
 use Rattle.model.specs.Outcome.{outcome}
 
--- a tally with one more of a number, if it is one
+-- barrier counters after one, if there is one, was incremented
 abbrev pub counted_if : Option Counter → Tally → Tally
 counted_if None y = y
 counted_if (Some c) y = counted c y
 
--- all tallies stay
+-- all barrier counters stay
 abbrev pub TalliesStay : HeapState → HeapState → Type 0
 TalliesStay h g = (t : ℕ) → tally_of_thread g t ≡ tally_of_thread h t
 
--- the tally of thread t counts one more, if any, and those of the others stay
+-- one of thread t's barrier counters is incremented, if any, and those of the others stay
 pub record CountsOne (h : HeapState) (t : ℕ) (c : Option Counter) (g : HeapState) : Type 0 where
   pub own : tally_of_thread g t ≡ option_map (counted_if c) (tally_of_thread h t)
   pub others : (u : ℕ) → u ≢ t → tally_of_thread g u ≡ tally_of_thread h u
 
--- how an accepted step with this answer leaves the tallies, from heap h to g
+-- the effect of an accepted step with this answer on barrier counters, from heap h to g
 abbrev pub CountsStep : HeapState → Actor → Step → Answer → HeapState → Type 0
 CountsStep h (Thread t) step answer g = CountsOne h t (counter_of step answer) g
 CountsStep h (Worker w) step answer g = TalliesStay h g
 
--- every accepted step does so
+-- every accepted step has this effect
 abbrev pub StepsCount : Type 0
 StepsCount = (h : HeapState) (actor : Actor) (step : Step) (g : HeapState) (answer : Answer)
     → outcome h actor step ≡ Ok (g, answer) → CountsStep h actor step answer g

@@ -1,5 +1,5 @@
--- The heap by addresses that a heap's state stands for: its objects, read off the words of its pages, and all else read
--- off its records.
+-- The address-level model that a heap's state represents: its objects are read from the words of its pages, and all
+-- else from its records.
 use Rattle.std.specs.Prelude.{ℕ, ◌+◌, ◌/◌, ◌%◌, ◌==◌, Bool, true, false, List, [], ◌∷◌, length, take, drop, map}
 use Rattle.std.specs.Prelude.{Option, Some, None, option_map, nat_le, nat_lt, slice_get, if◌then◌else◌}
 use Rattle.refword.specs.Words.{read_word}
@@ -21,17 +21,17 @@ use Rattle.laws.specs.AddressHeap.{LoadPlace, AtField, AtGlobal, OpenBarrier, Wo
 
 -- words
 
--- a reference, as the laws speak of it
+-- a reference, in the laws' terms
 abbrev pub as_word : Reference → Word
 as_word None = Null
 as_word (Some w) = To w.0 w.1
 
--- what was read from memory; what is no word is like a reference to address 0, where no object is
+-- what was read from memory; a number that is no reference is like a reference to address 0, at which no object is
 abbrev pub as_read : Option Reference → Word
 as_read None = To 0 false
 as_read (Some w) = as_word w
 
--- what a number in memory is
+-- the reference that a number in memory represents
 abbrev pub word_in_memory : ℕ → Word
 word_in_memory bits = as_read (read_word bits)
 
@@ -50,7 +50,7 @@ object_of words offset header l = record {
   data_words = run words (offset + 1 + l.refs) l.nums;
 }
 
--- there is one where it ends within the page
+-- the object of a layout at an offset, if it ends within the page
 abbrev pub object_laid : List ℕ → ℕ → ℕ → Option Layout → Option HeapObject
 object_laid words offset header None = None
 object_laid words offset header (Some l) =
@@ -61,31 +61,31 @@ abbrev pub object_headed : List Layout → List ℕ → ℕ → Option ℕ → O
 object_headed ls words offset None = None
 object_headed ls words offset (Some header) = object_laid words offset header (slice_get ls (layout_of header))
 
--- the object at an offset of a page that has memory, where the bit says that one starts there
+-- the object at an offset of a page that has memory, if its start bit is set
 abbrev pub object_in : List Layout → Bool → Option (List ℕ) → ℕ → Option HeapObject
 object_in ls true (Some words) offset = object_headed ls words offset (slice_get words offset)
 object_in ls _ _ offset = None
 
--- side arrays
+-- forwarding tables
 
--- the entry of an object that goes to an address: copied, or planned
+-- the entry of an object with a new address: copied, or planned
 abbrev pub entry_of : Bool → ℕ → SideEntry
 entry_of true to = Copied to
 entry_of false to = Planned to
 
--- the entry of an offset in a side array
+-- the entry of an offset in a forwarding table
 abbrev pub entry_at : List Forwarding → ℕ → SideEntry
 entry_at [] offset = NoEntry
 entry_at (f ∷ fs) offset = if f.offset == offset then entry_of f.copied f.to else entry_at fs offset
 
 -- threads, workers and globals
 
--- the place of a load, as the laws speak of it
+-- the place of a load, in the laws' terms
 abbrev pub as_place : Place → LoadPlace
 as_place (places.Field object index) = AtField object index
 as_place (places.Global index) = AtGlobal index
 
--- a load that isn't finished, as the laws speak of it
+-- an open barrier, in the laws' terms
 abbrev pub as_barrier : Barrier → OpenBarrier
 as_barrier b = record {
   target = b.target;
@@ -95,7 +95,7 @@ as_barrier b = record {
   healed = b.healed;
 }
 
--- what a worker scans, as the laws speak of it
+-- a worker's scan, in the laws' terms
 abbrev pub as_scan : Scan → WorkerScan
 as_scan s = record { address = s.object; next = s.next }
 
@@ -104,22 +104,22 @@ abbrev pub barrier_in : Option ThreadState → Option OpenBarrier
 barrier_in None = None
 barrier_in (Some t) = option_map as_barrier t.barrier
 
--- what a worker scans that may be missing
+-- a worker's scan, if it has one
 abbrev pub scan_in : Option (Option Scan) → Option WorkerScan
 scan_in None = None
 scan_in (Some s) = option_map as_scan s
 
--- the word of a global that may be missing
+-- the reference in a global that may be missing
 abbrev pub global_in : Option Global → Word
 global_in None = Null
 global_in (Some g) = as_word g.word
 
--- a global that may be missing is still to be marked
+-- a global that may be missing is grey
 abbrev pub todo_in : Option Global → Bool
 todo_in None = false
 todo_in (Some g) = g.todo
 
--- the whole
+-- all parts
 
 -- the object at an address
 abbrev pub object_at : HeapState → ℕ → Option HeapObject
@@ -127,7 +127,7 @@ object_at h a =
     object_in h.config.layouts (bit_at h.starts h.store.words a)
     (words_at h.store (a / h.store.words)) (a % h.store.words)
 
--- the heap by addresses of a state
+-- the address-level model of a state
 abbrev pub world_of : HeapState → AddressHeap
 world_of h = record {
   page_state = λ a. state_at h.store (a / h.store.words);

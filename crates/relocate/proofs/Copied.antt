@@ -1,4 +1,4 @@
--- Where no entry is left to be copied, nothing is.
+-- If no entry is left to be copied, nothing is.
 use Rattle.std.proofs.Common.{◌≡◌, ℕ, ◌/◌, ◌%◌, ◌==◌, ◌||◌, not, Bool, true, false, cond, List, [], ◌∷◌}
 use Rattle.std.proofs.Common.{Option, Some, None, refl, sym, ap}
 use Rattle.std.specs.List.{list_any}
@@ -11,7 +11,7 @@ use Rattle.model.specs.Moves.{with_copy, copied_by, copied_first}
 use Rattle.forward.specs.Counts.{uncopied_count}
 use Rattle.forward.proofs.Totals.{all_copied}
 
--- an entry of a side array of which all are copied, is
+-- an entry is copied if all of its forwarding table are
 is_copied : (fs : List Forwarding) (o : ℕ) (f : Forwarding) → list_any is_uncopied fs ≡ false
     → entry_of fs o ≡ Some f → f.copied ≡ true
 is_copied [] o f none e = absurd (cc)

@@ -1,4 +1,4 @@
--- Entries of pages that are being emptied lie in their pages.
+-- Entries of protected pages are within their pages.
 use Rattle.std.proofs.Common.{◌≡◌, ◌≢◌, ℕ, zero, suc, ◌+◌, ◌-◌, ◌/◌, ◌<◌, ◌≤◌, true, List, [], ◌∷◌}
 use Rattle.std.proofs.Common.{Option, Some, None, refl, sym, subst, arith}
 use Rattle.std.proofs.Math.Nat.{div-lt_iff_lt-mul}
@@ -19,7 +19,7 @@ use Rattle.model.proofs.Memory.{page_there}
 use Rattle.model.proofs.Plans.{rising_within}
 use Rattle.page.proofs.NextTargets.{records_within}
 
--- what side arrays have, and none without entries lacks, a page's has
+-- a property of all forwarding tables and of the empty one is one of a page's
 page_each : (P : List Forwarding → Type 0) (sides : List (List Forwarding)) (n : ℕ) → P [] → Each sides P
     → P (of_page sides n)
 page_each P sides zero none h = none
@@ -27,7 +27,7 @@ page_each P [] (suc i) none h = none
 page_each P (side ∷ sides) (suc zero) none h = h 0 side refl
 page_each P (side ∷ sides) (suc (suc i)) none h = page_each P sides (suc i) none (λ j. h (suc j))
 
--- the side array of a page rises
+-- the entries of a page's forwarding table rise by offset
 page_rises : (w : ℕ) (sides : List (List Forwarding)) (n : ℕ) → Each sides (AreRising w 0)
     → AreRising w 0 (of_page sides n)
 page_rises w sides n h = page_each (AreRising w 0) sides n tt h
@@ -50,7 +50,7 @@ entry_paged h page e (Some f) i is =
     let few : f.to / h.config.words < h.config.pages + 1 = (div-lt_iff_lt-mul low).1 goes in
     subst (λ w. f.to / w ≤ MOST_PAGES) (sym i.sizes.words) (omega (arith, few, i.config.pages_high))
 
--- a page that is used has a number
+-- a page that isn't unused has a number
 pub numbered : (s : StoreState) (page : ℕ) → IsStore s → state_at s page ≢ Unused → (0 < page) × (page ≤ s.count)
 unfolding state_at
 numbered s page h e = by_page (page_at s page) refl e
@@ -62,7 +62,7 @@ numbered s page h e = by_page (page_at s page) refl e
         let low = slice_get_within s.pages (page - 1) p at in
         (omega (arith, one), omega (arith, one, low, records_within s h))
 
--- so has one that is being emptied
+-- so has a From page
 from_numbered : (s : StoreState) (page : ℕ) → IsStore s → is_from (state_at s page) ≡ true
     → (0 < page) × (page ≤ s.count)
 from_numbered s page h e =

@@ -13,7 +13,7 @@ use Rattle.model.specs.Plans.{offsets_from, live_offsets}
 use Rattle.relocate.specs.Drafts.{draft_of, draft_entry, draft_size, draft_sizes}
 use Rattle.markbits.specs.Words.{IsFirstFrom}
 
--- from a place on, the first that is set comes before those behind it
+-- from a place on, the first set bit comes before those after it
 offsets_next : (row : List Bool) (o a c d i k : ℕ) → a ≡ o + i → c ≡ o + k → d ≡ o + suc k → i ≤ k
     → get_or row k false ≡ true → ((j : ℕ) → i ≤ j → j < k → get_or row j false ≡ false)
     → offsets_from a (drop i row) ≡ c ∷ offsets_from d (drop (suc k) row)
@@ -34,7 +34,7 @@ offsets_next (b ∷ row) o a c d (suc i) (suc k) p q r l here before =
     offsets_next row (o + 1) a c d i k (omega (arith, p)) (omega (arith, q)) (omega (arith, r)) (omega (arith, l)) here
     (λ j x y. before (suc j) (omega (arith, x)) (omega (arith, y)))
 
--- there are none where nothing is set from a place on
+-- if no bit is set from a place on, there are no offsets
 offsets_none : (row : List Bool) (a i : ℕ) → ((j : ℕ) → i ≤ j → get_or row j false ≡ false)
     → offsets_from a (drop i row) ≡ []
 offsets_none [] a zero none = refl
@@ -43,7 +43,7 @@ offsets_none (true ∷ row) a zero none = absurd (true≢false (none zero (omega
 offsets_none (false ∷ row) a zero none = offsets_none row (a + 1) zero (λ j x. none (suc j) (omega (arith, x)))
 offsets_none (b ∷ row) a (suc i) none = offsets_none row a i (λ j x. none (suc j) (omega (arith, x)))
 
--- what is left behind a place that was found
+-- the offsets that are left after a place that was found
 pub left_next : (bits : List Bool) (i k : ℕ) → IsFirstFrom bits i k
     → offsets_from i (drop i bits) ≡ k ∷ offsets_from (k + 1) (drop (k + 1) bits)
 left_next bits i k f =
@@ -55,7 +55,7 @@ pub left_none : (bits : List Bool) (i : ℕ) → ((j : ℕ) → i ≤ j → get_
     → offsets_from i (drop i bits) ≡ []
 left_none bits i none = offsets_none bits i i none
 
--- one more is taken off what is left, and put behind what was
+-- one more offset moves from what is left to the end of what is done
 pub taken_over : {X : Type 0} (f : ℕ → X) (done now whole : List X) (left rest : List ℕ) (k : ℕ) → left ≡ k ∷ rest
     → now ≡ done ++ f k ∷ [] → done ++ map f left ≡ whole → now ++ map f rest ≡ whole
 taken_over f done now whole left rest k is put h =
@@ -85,6 +85,6 @@ module _ (h : HeapState) (n : ℕ) (low : 0 < n) where
         ap (λ row. map (draft_size h n) (offsets_from 0 row)) (sym is),
       )
 
-  -- the row of a page has no more bits than the page has words, and the draft of it rises
+  -- the live bitmap of a page has no more bits than the page has words, and the draft of it rises
   pub row_sized : (r : List Bool) → IsHeap h → slice_get h.live (n - 1) ≡ Some r → length r ≤ h.store.words
   row_sized r i e = row_short h.store h.live (n - 1) r i.live e

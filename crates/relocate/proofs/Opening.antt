@@ -12,7 +12,7 @@ use Rattle.heap.specs.Opening.{IsBlank}
 use Rattle.heap.specs.declared.heap.opening.PageMemory.{PageMemory}
 use Rattle.relocate.specs.Targets.{AreBlank, KeepsClosed}
 
--- what a target leaves as it was
+-- opening a target keeps all else
 pub target_keeps : (h g : HeapState) (b : Buffer) → OpensNext h.store g.store b.page → g ≡ with_target h (g.store, b)
     → KeepsClosed h g
 unfolding with_target
@@ -24,14 +24,14 @@ target_keeps h g b next is = record {
   closed = next.closed;
 }
 
--- each element, and one behind them
+-- a property of each element and of one more at the end
 pub each_behind : {X : Type 0} (P : X → Type 0) (ns : List X) (n : X) → Each ns P → P n → Each (ns ++ n ∷ []) P
 each_behind P [] n h p zero x e = subst P (same_Some _ _ e) p
 each_behind P [] n h p (suc i) x e = absurd (cc)
 each_behind P (m ∷ ns) n h p zero x e = h zero x e
 each_behind P (m ∷ ns) n h p (suc i) x e = each_behind P ns n (λ j. h (suc j)) p i x e
 
--- what is left of the memory of k targets, where i are opened
+-- what is left of the memory of k targets after i were opened
 abbrev pub IsLeft : ℕ → ℕ → ℕ → List PageMemory → Type 0
 IsLeft words k i memory = AreBlank words (k - i) memory
 
@@ -54,7 +54,7 @@ one_taken words k i old new x left low is =
 pub some_left : (words k i : ℕ) (memory : List PageMemory) → IsLeft words k i memory → i < k → 0 < length memory
 some_left words k i memory left low = omega (arith, left.0, low)
 
--- the memory of one more is made ready
+-- the memory of one more is prepared
 pub one_more : (words i : ℕ) (old new : List PageMemory) (x : PageMemory) → AreBlank words i old → IsBlank words x
     → new ≡ old ++ x ∷ [] → AreBlank words (i + 1) new
 one_more words i old new x left blank is = (
@@ -62,7 +62,7 @@ one_more words i old new x left blank is = (
   subst (λ xs. Each xs (IsBlank words)) (sym is) (each_behind (IsBlank words) old x left.1 blank),
 )
 
--- i of k targets are opened, with these pages: the others give what all give
+-- i of k targets were opened, on these pages: opening the others makes what opening all makes
 pub record HasOpened (h g : HeapState) (k i : ℕ) (ns : List ℕ) : Type 0 where
   pub heap : (with_targets (k - i) g).0 ≡ (with_targets k h).0
   pub pages : ns ++ (with_targets (k - i) g).1 ≡ (with_targets k h).1

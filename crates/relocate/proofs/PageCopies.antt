@@ -1,4 +1,4 @@
--- The copies of a whole page: what they come to, and when they are refused.
+-- Copies of all objects of a page: their result, and when they fail.
 use Rattle.std.proofs.Common.{◌≡◌, ℕ, zero, suc, ◌+◌, ◌*◌, ◌/◌, ◌%◌, Bool, true, false, cond, not, length, count_by}
 use Rattle.std.proofs.Common.{Option, Some, None}
 use Rattle.std.proofs.Common.{refl, sym, ◌∙◌, ap}
@@ -40,7 +40,7 @@ may_copy h n e = by_tests (is_idle h.phase) (crossed_if_protecting h) (is_from (
     by_tests false (Ok tt) false x y z k = absurd (cc)
     by_tests false (Ok tt) true x y z k = record { busy = x; crossed = y; emptied = z }
 
--- Copy of an entry, there
+-- the effect of `Copy` of an entry
 copied_one : (h : HeapState) (n e : ℕ) → MayCopy h n
     → heap_after h (copy_outcome h n e) ≡ with_entry h n (slice_get (of_page h.sides n) e)
 unfolding copy_outcome entry_on
@@ -77,7 +77,7 @@ copied_one h n e m = by_tests (is_idle h.phase) (crossed_if_protecting h) (is_fr
     by_tests false (Err k) b x y z = absurd (cc)
     by_tests false (Ok tt) false x y z = absurd (cc)
 
--- and then as before
+-- copying an entry keeps that the page's objects may be copied
 still : (h : HeapState) (n : ℕ) (o : Option Forwarding) → MayCopy h n → MayCopy (with_entry h n o) n
 unfolding with_copy with_copied_words with_words state_at page_at crossed_if_protecting all_crossed
 still h n None m = m
@@ -93,7 +93,7 @@ copies_are h n e (suc k) m =
     let o : Option Forwarding = slice_get (of_page h.sides n) e in
     ap (λ g. copies_from g n (e + 1) k) (copied_one h n e m) ∙ copies_are (with_entry h n o) n (e + 1) k (still h n o m)
 
--- the outcome is the tests, and then the copies
+-- the outcome is that of the tests, and then of the copies
 
 abbrev told : HeapState → ℕ → Outcome
 told h n = Ok (copy_page h n, answers.CopiedPage (count_by is_uncopied (of_page h.sides n)))

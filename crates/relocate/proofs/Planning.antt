@@ -1,4 +1,4 @@
--- The plan of pages: as many places as there are live objects, each in one of the targets.
+-- The plan of pages: a place for each live object, in one of the targets.
 use Rattle.std.proofs.Common.{◌≡◌, ℕ, zero, suc, ◌+◌, ◌<◌, ◌≤◌, Bool, true, false, cond, nat_le, List, [], ◌∷◌, ◌++◌}
 use Rattle.std.proofs.Common.{◌-◌, set, drop, length, map, Option, Some, None, refl, sym}
 use Rattle.std.proofs.Common.{◌∙◌, ap, ap₂, subst, arith, length-append}
@@ -28,7 +28,7 @@ use Rattle.relocate.proofs.Settled.{sides_placed}
 
 -- sizes
 
--- the sizes that are drafted are those that are planned
+-- the drafted sizes are the planned ones
 flat_mapped : {X Y Z : Type 0} (f : Y → Z) (g : X → List Y) (k : X → List Z) (xs : List X)
     → ((x : X) → k x ≡ map f (g x)) → flat_map k xs ≡ map f (flat_map g xs)
 flat_mapped f g k [] h = refl
@@ -42,7 +42,7 @@ sizes_planned h pages = ap (places_from h.store.words 0 0)
     (flat_mapped (object_words h) (live_on h) (draft_sizes h) pages
     (λ n. sym (map-map (object_words h) (address_of h n) (live_offsets h n))))
 
--- as many places as there are entries
+-- there is a place for each entry
 counted_flat : {X Y : Type 0} (f : X → List Y) (g : X → ℕ) (xs : List X) → ((x : X) → length (f x) ≡ g x)
     → length (flat_map f xs) ≡ sum_by g xs
 counted_flat f g [] h = refl
@@ -69,7 +69,7 @@ enough_places h pages =
 
 -- places
 
--- a place begins within its target, where each object has a word
+-- a place begins within its target, since each object has a word
 begins_within : (w t o : ℕ) (ns : List ℕ) → 0 < w → Each ns (λ n. 0 < n) → (i : ℕ) (p : ℕ × ℕ)
     → slice_get (places_from w t o ns) i ≡ Some p → p.1 < w
 begins_within w t o [] low some i p e = absurd (cc)
@@ -111,7 +111,7 @@ places_counted h pages n e i p at =
     let low = plans.places_counted h.store.words 0 0 (map (object_words h) (live_objects h pages)) i p at in
     omega (arith, e, low)
 
--- side arrays
+-- forwarding tables
 
 pub drafts_rise : (h : HeapState) (pages : List ℕ) → IsHeap h
     → Each (map (draft_of h) pages) (AreRising h.config.words 0)
@@ -129,7 +129,7 @@ drafts_rise h (n ∷ ns) d zero fs e = subst (AreRising h.config.words 0) (same_
     row_on (row ∷ rows) (suc (suc i)) k = row_on rows (suc i) (λ j. k (suc j))
 drafts_rise h (n ∷ ns) d (suc i) fs e = drafts_rise h ns d i fs e
 
--- what is put is what is settled
+-- the forwarding tables that are stored are the settled ones
 put_is : (h : HeapState) (ts pages : List ℕ) (ps : List (ℕ × ℕ)) (sides : List (List Forwarding))
     → with_placed_drafts h.store.words ts pages (map (draft_of h) pages) ps sides
     ≡ with_placed_sides h ts pages ps sides
@@ -150,7 +150,7 @@ put_moves h ts pages sides d once = put_is h ts pages (plan_of h pages) sides �
 
 -- pages are protected
 
--- targets are opened, side arrays put, and pages protected
+-- targets are opened, forwarding tables stored, and pages protected
 pub protected_is : (h g mid final : HeapState) (ts pages : List ℕ) (drafts : List (List Forwarding)) (ps : List (ℕ × ℕ))
     (n : ℕ) → IsHeap h → has_twice pages ≡ false → drafts ≡ map (draft_of h) pages → ps ≡ plan_of h pages
     → n ≡ target_count (plan_of h pages) → g ≡ (with_targets n h).0 → ts ≡ (with_targets n h).1

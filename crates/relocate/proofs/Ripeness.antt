@@ -17,12 +17,12 @@ use Rattle.model.proofs.Passing.{worker_index}
 use Rattle.relocate.proofs.Entries.{numbered}
 use Rattle.relocate.proofs.Opening.{each_behind}
 
--- the outcome of the pages that are left is that of the next one, and then of those behind it
+-- the outcome for the pages that are left is that of the next one, and then of those after it
 next : (h : HeapState) (ns : List ℕ) (i : ℕ) → i < length ns
     → all_ripe h (drop i ns) ≡ (ripe h (get_or ns i 0) >>= λ _. all_ripe h (drop (i + 1) ns))
 next h ns i l = ap (all_ripe h) (drop_more ns i 0 l)
 
--- a page may be protected: those behind it decide
+-- a page may be protected: those after it decide
 pub one_ripe : (h : HeapState) (ns : List ℕ) (i : ℕ) → i < length ns → Ok tt ≡ ripe h (get_or ns i 0)
     → all_ripe h (drop i ns) ≡ all_ripe h ns → all_ripe h (drop (i + 1) ns) ≡ all_ripe h ns
 one_ripe h ns i l e same =
@@ -38,14 +38,14 @@ one_closed s ns i l e h = subst (λ ms. Each ms (λ n. state_at s n ≡ Closed))
 closed_numbered : (s : StoreState) (n : ℕ) → IsStore s → state_at s n ≡ Closed → (0 < n) × (n ≤ s.count)
 closed_numbered s n h e = numbered s n h (λ z. absurd (let k : Unused ≡ Closed = sym z ∙ e in cc))
 
--- the first ones, as many as there are, are all
+-- the first n elements of a list of n are all
 all_taken : (ns : List ℕ) (i : ℕ) → length ns ≤ i → take i ns ≡ ns
 all_taken [] zero l = refl
 all_taken [] (suc i) l = refl
 all_taken (n ∷ ns) zero l = absurd (omega (arith, l))
 all_taken (n ∷ ns) (suc i) l = ap (λ ms. n ∷ ms) (all_taken ns i (omega (arith, l)))
 
--- behind the last all are closed
+-- after the last page all are closed
 each_closed : (s : StoreState) (ns : List ℕ) (i : ℕ) → length ns ≤ i
     → Each (take i ns) (λ n. state_at s n ≡ Closed) → Each ns (λ n. state_at s n ≡ Closed)
 each_closed s ns i l h = subst (λ ms. Each ms (λ n. state_at s n ≡ Closed)) (all_taken ns i l) h
@@ -59,12 +59,12 @@ pub each_high : (s : StoreState) (ns : List ℕ) (i : ℕ) → IsStore s → len
     → Each (take i ns) (λ n. state_at s n ≡ Closed) → Each ns (λ n. n ≤ s.count)
 each_high s ns i is l h = λ j n at. (closed_numbered s n is (each_closed s ns i l h j n at)).1
 
--- pages that can be named together are named once each
+-- pages of a valid list are named once each
 pub named_once : (h : HeapState) (ns : List ℕ) → are_bad_pages h ns ≡ false → has_twice ns ≡ false
 named_once h [] e = absurd (cc)
 named_once h (n ∷ ns) e = (or_parts _ _ e).1
 
--- the pages of a step that has passed the tests before its row are named once each
+-- the pages of a step that passed the tests of all steps are named once each
 pub passed_once : (h : HeapState) (w : ℕ) (pages : List ℕ) → WorkerPasses h w (steps.Protect pages)
     → has_twice pages ≡ false
 passed_once h w pages g = named_once h pages (worker_index h w (steps.Protect pages) g)

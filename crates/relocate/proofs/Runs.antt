@@ -21,7 +21,7 @@ use Rattle.forward.specs.Searching.{found_at}
 use Rattle.heap.specs.Runs.{with_entry, with_entries, GoTo}
 use Rattle.relocate.specs.Runs.{goes_to, IsRun}
 
--- an entry that is there goes somewhere
+-- an entry that exists has a target
 pub entry_goes : (h : HeapState) (n e end : ℕ) (o : Option ℕ) → e < end → end ≤ length (of_page h.sides n)
     → o ≡ goes_to h.store.words (slice_get (of_page h.sides n) e) → IsSome o
 entry_goes h n e end o a b is =
@@ -123,7 +123,7 @@ entry_first h a i e = by_entry (slice_get (of_page h.sides (a / h.store.words)) 
         ∙ ap (λ m. copied_by h m (Some f)) (div-add-mod' a h.store.words)
         ∙ sym (ap (copied_by h a) z)
 
--- one that wasn't copied
+-- an entry that wasn't copied
 pub entry_copied : (h : HeapState) (n e : ℕ) (f : Forwarding) → entry_on h n e ≡ Some f → f.copied ≡ false
     → with_copy h (n * h.store.words + f.offset) f.to ≡ with_entry h n (slice_get (of_page h.sides n) e)
 unfolding entry_on
@@ -136,7 +136,7 @@ entry_copied h n e f at fresh = by_from (is_from (state_at h.store n)) at
         ∙ ap (λ b. cond b h (with_copy h (n * h.store.words + f.offset) f.to)) fresh)
     by_from false z = absurd (cc)
 
--- the entries of a page stay as many
+-- the number of a page's entries stays
 
 length_map : (o : ℕ) (fs : List Forwarding) → length (map (set_copied_of o) fs) ≡ length fs
 length_map o [] = refl
@@ -182,7 +182,7 @@ length_entries h n e (suc k) m =
     length_entries (with_entry h n (slice_get (of_page h.sides n) e)) n (e + 1) k m
     ∙ length_entry h n (slice_get (of_page h.sides n) e) m
 
--- so many entries, and then others
+-- k entries are copied as j of them, and then the others
 pub entries_on : (h : HeapState) (n e j k : ℕ)
     → with_entries h n e (j + k) ≡ with_entries (with_entries h n e j) n (e + j) k
 entries_on h n e zero k =

@@ -1,4 +1,4 @@
--- Side arrays of which each entry is given the next place are those that are made of moves.
+-- Forwarding tables whose entries are given the next places are those made by moves.
 use Rattle.std.proofs.Common.{◌≡◌, ◌≤◌, inl, inr, ℕ, zero, suc, ◌+◌, ◌-◌, ◌*◌, ◌<◌, Bool, true, false, cond}
 use Rattle.std.proofs.Common.{List, [], ◌∷◌, ◌++◌, length, map, drop, set, ◌==◌, eq-eqb, ne_eqb, Some}
 use Rattle.std.proofs.Common.{refl, sym, ◌∙◌, ap, subst, arith}
@@ -21,7 +21,7 @@ use Rattle.relocate.specs.Drafts.{draft_of, with_places, with_placed_sides}
 
 -- lists without repeats
 
--- no element stands twice
+-- no element is there twice
 abbrev AreDistinct : List ℕ → Type 0
 AreDistinct [] = Unit {0}
 AreDistinct (x ∷ xs) = (IsIn x xs → ⊥) × AreDistinct xs
@@ -52,7 +52,7 @@ distinct_offsets b (true ∷ bits) = (
 )
 distinct_offsets b (false ∷ bits) = distinct_offsets (b + 1) bits
 
--- what a page has a bit of is within the page
+-- a bit of a page's bitmap is within the page
 row_within : (words : ℕ) (rows : List (List Bool)) (n j : ℕ) (bit : Bool) → Each rows (λ row. length row ≤ words)
     → slice_get (of_page rows n) j ≡ Some bit → j < words
 row_within words rows zero j bit long at = absurd (cc)
@@ -143,7 +143,7 @@ planned_moves h pages targets long once =
 
 -- entries and their places
 
--- the entries of a page whose objects begin at these offsets are settled, with those of later pages behind them
+-- the entries of a page whose objects begin at these offsets are settled, followed by those of later pages
 entries_settled : (words start : ℕ) (targets : List ℕ) (moves : List (ℕ × ℕ)) (offsets later : List ℕ)
     (ps : List (ℕ × ℕ)) → AreMoved moves (map (λ o. start + o) offsets ++ later) (map (address_in words targets) ps)
     → map (λ o. record { offset = o; to = place_of moves (start + o); copied = false }) offsets
@@ -154,7 +154,7 @@ entries_settled words start targets moves (o ∷ os) later (p ∷ ps) (here, res
     record { offset = o; to = here i; copied = false }
     ∷ entries_settled words start targets moves os later ps rest i
 
--- and the objects of later pages go to the places behind
+-- the objects of later pages go to the places after them
 moved_behind : (words start : ℕ) (targets : List ℕ) (moves : List (ℕ × ℕ)) (offsets later : List ℕ)
     (ps : List (ℕ × ℕ)) → AreMoved moves (map (λ o. start + o) offsets ++ later) (map (address_in words targets) ps)
     → AreMoved moves later (map (address_in words targets) (drop (length offsets) ps))
@@ -185,7 +185,7 @@ pages_settled h targets moves (n ∷ ns) ps sides k =
     (set sides (n - 1) (with_places words targets ps (draft_of h n)))
     (moved_behind words (n * words) targets moves (live_offsets h n) later ps k)
 
--- to give each draft the next places of the plan is to make each side array of the moves
+-- giving each draft the next places of the plan makes the forwarding tables of the moves
 pub sides_placed : (h : HeapState) (targets pages : List ℕ) (sides : List (List Forwarding))
     → Each h.live (λ row. length row ≤ h.store.words) → has_twice pages ≡ false
     → with_sides h (moves_of h pages targets) pages sides ≡ with_placed_sides h targets pages (plan_of h pages) sides

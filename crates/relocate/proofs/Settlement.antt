@@ -16,7 +16,7 @@ use Rattle.model.proofs.Lists.{get_within}
 use Rattle.forward.specs.Settling.{set_place_of}
 use Rattle.relocate.specs.Drafts.{with_places}
 
--- the element behind others that are left out
+-- an element after others that are dropped
 pub get_dropped : {X : Type 0} (xs : List X) (a i j : ℕ) → j ≡ a + i → slice_get (drop a xs) i ≡ slice_get xs j
 get_dropped [] zero i j e = refl
 get_dropped [] (suc a) i j e = refl
@@ -36,7 +36,7 @@ changed_behind f fs i g = by_found (slice_get fs i)
     by_found None = refl
     by_found (Some x) = refl
 
--- the entry of a number gets its place
+-- the entry of an index gets its place
 one_settled : (w : ℕ) (ts : List ℕ) (ps : List (ℕ × ℕ)) (fs : List Forwarding) (i : ℕ) (p : ℕ × ℕ)
     → slice_get ps i ≡ Some p → i < length fs
     → take i fs ++ with_places w ts (drop i ps) (drop i fs)
@@ -62,7 +62,7 @@ settled_next w ts ps fs gs whole i p e l is h = h ∙ one_settled w ts ps fs i p
     more : (i : ℕ) → suc i ≡ i + 1
     more i = omega arith
 
--- all have got theirs
+-- all entries got their places
 pub settled_all : (w : ℕ) (ts : List ℕ) (ps : List (ℕ × ℕ)) (fs whole : List Forwarding) (i : ℕ) → length fs ≤ i
     → whole ≡ take i fs ++ with_places w ts (drop i ps) (drop i fs) → fs ≡ whole
 settled_all w ts ps fs whole i l h = sym (h ∙ past ps fs i l)
@@ -77,20 +77,20 @@ settled_all w ts ps fs whole i l h = sym (h ∙ past ps fs i l)
         ∙ past [] fs i (omega (arith, l)))
     past (p ∷ ps) (f ∷ fs) (suc i) l = ap (λ xs. f ∷ xs) (past ps fs i (omega (arith, l)))
 
--- entries that get places stay where they are
+-- entries that get places keep their offsets
 pub settled_rises : (v low w : ℕ) (ts : List ℕ) (ps : List (ℕ × ℕ)) (fs : List Forwarding) → AreRising v low fs
     → AreRising v low (with_places w ts ps fs)
 settled_rises v low w ts ps [] r = tt
 settled_rises v low w ts [] (f ∷ fs) (a, b, r) = (a, b, settled_rises v (f.offset + 1) w ts [] fs r)
 settled_rises v low w ts (p ∷ ps) (f ∷ fs) (a, b, r) = (a, b, settled_rises v (f.offset + 1) w ts ps fs r)
 
--- lists that are the same from a number on have the same there
+-- lists that are equal from an index on are equal at it
 pub same_there : {X : Type 0} (xs ys : List X) (i : ℕ) (x : X) → drop i xs ≡ drop i ys → slice_get xs i ≡ Some x
     → slice_get ys i ≡ Some x
 same_there xs ys i x e at = sym (get_dropped ys i 0 i (omega arith)) ∙ sym (ap (λ zs. slice_get zs 0) e)
     ∙ get_dropped xs i 0 i (omega arith) ∙ at
 
--- what each element has, each has of those from a number on
+-- a property of each element is one of each from an index on
 pub each_dropped : {X : Type 0} (P : X → Type 0) (xs : List X) (a : ℕ) → Each xs P → Each (drop a xs) P
 each_dropped P xs a h i x e = h (a + i) x (sym (get_dropped xs a i (a + i) refl) ∙ e)
 

@@ -1,4 +1,4 @@
--- Drafts: side arrays before places are known, and with the places of a plan (ours).
+-- Drafts: forwarding tables before places are known, and with the places of a plan.
 use Rattle.std.specs.Prelude.{ℕ, ◌+◌, ◌-◌, ◌*◌, false, List, [], ◌∷◌, map, length, drop, slice_set}
 use Rattle.model.specs.declared.records.Forwarding.{Forwarding}
 use Rattle.model.specs.States.{HeapState}
@@ -8,7 +8,7 @@ use Rattle.model.specs.Plans.{live_offsets, object_words, address_in}
 abbrev pub address_of : HeapState → ℕ → ℕ → ℕ
 address_of h n o = n * h.store.words + o
 
--- the entry of the object at an offset of page n, before places are known: it goes to where it is
+-- the entry of the object at an offset of page n, before places are known: its place is where it is
 abbrev pub draft_entry : HeapState → ℕ → ℕ → Forwarding
 draft_entry h n o = record { offset = o; to = address_of h n o; copied = false }
 
@@ -16,29 +16,29 @@ draft_entry h n o = record { offset = o; to = address_of h n o; copied = false }
 abbrev pub draft_of : HeapState → ℕ → List Forwarding
 draft_of h n = map (draft_entry h n) (live_offsets h n)
 
--- how many words the object at an offset of page n has
+-- the words of the object at an offset of page n
 abbrev pub draft_size : HeapState → ℕ → ℕ → ℕ
 draft_size h n o = object_words h (address_of h n o)
 
--- how many words the live objects of page n have
+-- the words of each live object of page n
 abbrev pub draft_sizes : HeapState → ℕ → List ℕ
 draft_sizes h n = map (draft_size h n) (live_offsets h n)
 
--- entries whose objects go to these places, in order, in targets of which these are the pages
+-- entries with these places, in order, as offsets in targets on these pages
 abbrev pub with_places : ℕ → List ℕ → List (ℕ × ℕ) → List Forwarding → List Forwarding
 with_places words targets ps [] = []
 with_places words targets [] (f ∷ fs) = f ∷ with_places words targets [] fs
 with_places words targets (p ∷ ps) (f ∷ fs) = record f { to = address_in words targets p }
     ∷ with_places words targets ps fs
 
--- side arrays of which those of these pages are settled, one page's places behind the other's
+-- forwarding tables after those of these pages got their places, one page's after the other's
 abbrev pub with_placed_sides : HeapState → List ℕ → List ℕ → List (ℕ × ℕ) → List (List Forwarding)
     → List (List Forwarding)
 with_placed_sides h targets [] ps sides = sides
 with_placed_sides h targets (n ∷ ns) ps sides = with_placed_sides h targets ns (drop (length (live_offsets h n)) ps)
     (slice_set sides (n - 1) (with_places h.store.words targets ps (draft_of h n)))
 
--- side arrays of which those of these pages are these drafts, settled one behind the other
+-- forwarding tables after those of these pages became these drafts, with their places, one after the other
 abbrev pub with_placed_drafts : ℕ → List ℕ → List ℕ → List (List Forwarding) → List (ℕ × ℕ) → List (List Forwarding)
     → List (List Forwarding)
 with_placed_drafts words targets [] drafts ps sides = sides

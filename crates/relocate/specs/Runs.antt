@@ -1,4 +1,4 @@
--- Entries of a page that go to one target, and whether a page's objects may be copied.
+-- Runs of a page's entries with one target, and whether a page's objects may be copied.
 use Rattle.std.specs.Prelude.{ℕ, ◌+◌, ◌/◌, ◌≤◌, ◌<◌, not, Option, Some, None, Result}
 use Rattle.model.specs.declared.records.Forwarding.{Forwarding}
 use Rattle.model.specs.declared.steps.Refusal.{Refusal}
@@ -11,12 +11,12 @@ use Rattle.model.specs.States.{HeapState}
 use Rattle.model.specs.Stores.{state_at, is_from}
 use Rattle.heap.specs.Runs.{GoTo}
 
--- the target that the object of an entry goes to, if there is such an entry
+-- the target of an entry's object, if there is such an entry
 abbrev pub goes_to : ℕ → Option Forwarding → Option ℕ
 goes_to words None = None
 goes_to words (Some f) = Some (f.to / words)
 
--- some entries of page n, from number e on and below number `end`, go to one target
+-- `count` entries of page n, from number e on and below number `end`, have one target
 pub record IsRun (h : HeapState) (n e end target count : ℕ) : Type 0 where
   pub some : 0 < count
   pub within : e + count ≤ end

@@ -1,4 +1,4 @@
--- What targets leave as it was.
+-- What stays when targets are opened.
 use Rattle.std.specs.Prelude.{◌≡◌, ℕ, List, length}
 use Rattle.heap.specs.Opening.{IsBlank}
 use Rattle.heap.specs.declared.heap.opening.PageMemory.{PageMemory}
@@ -7,11 +7,11 @@ use Rattle.model.specs.declared.records.PageState.TheVariants.{Closed}
 use Rattle.model.specs.States.{HeapState}
 use Rattle.model.specs.Stores.{state_at}
 
--- memory of so many pages of so many words
+-- blank memory for a number of pages of a number of words
 abbrev pub AreBlank : ℕ → ℕ → List PageMemory → Type 0
 AreBlank words count memory = (length memory ≡ count) × Each memory (IsBlank words)
 
--- a heap has the phase, the configuration and the sizes of an old one, and its closed pages are closed still
+-- a heap has the phase, the configuration and the sizes of an old one, and its closed pages are still closed
 pub record KeepsClosed (old new : HeapState) : Type 0 where
   pub phase : new.phase ≡ old.phase
   pub config : new.config ≡ old.config

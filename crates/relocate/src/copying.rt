@@ -1,5 +1,4 @@
-//! Objects are copied, by workers and by threads that meet them (the paper's Relocate phase; that a
-//! thread copies itself is ours).
+//! Copying objects, by workers and by the threads that meet them.
 
 ghost use Rattle.std.specs.Prelude.{◌≡◌, ◌<◌, ◌≤◌, ◌/◌, Some, IfSome, slice_get};
 ghost use Rattle.heap.specs.Runs.{with_entry};
@@ -18,8 +17,8 @@ use heap::Heap;
 use model::{Answer, Forwarding, Phase, Refusal, Reply};
 use refword::{Addr, Word};
 
-/// Copies the object of an entry of a page, by the page's number from 1 and the entry's from 0, where
-/// there is one that wasn't copied: a run of one.
+/// Copies the object of an entry of a page, by the page's number from 1 and the entry's from 0, if the entry exists
+/// and isn't copied: a run of one.
 fn copy_entry(heap: &mut Heap, page: u64, entry: u32)
     ensures { heap.new ≡ with_entry heap.old page (slice_get (of_page heap.old.sides page) entry) }
 {
@@ -32,7 +31,7 @@ fn copy_entry(heap: &mut Heap, page: u64, entry: u32)
     }
 }
 
-/// Copies the object at an address, where it has a place to go and wasn't copied.
+/// Copies the object at an address, if it is planned to move and isn't copied.
 #[tactic(auto, using(crate::proofs::Runs::none_first, crate::proofs::Runs::entry_first))]
 fn copy_first(heap: &mut Heap, address: Addr)
     ensures { heap.new ≡ copied_first heap.old address }
@@ -44,8 +43,8 @@ fn copy_first(heap: &mut Heap, address: Addr)
     }
 }
 
-/// Copies the object of a word, where it has a place to go and wasn't copied. While nothing is left to
-/// be copied, that is one test.
+/// Copies the object of a reference, if it is planned to move and isn't copied. It costs one test if nothing is left
+/// to be copied.
 #[tactic(auto, unfolding(model::specs::Moves::copied_for), using(crate::proofs::Copied::none_to_copy))]
 pub fn copy_for(heap: &mut Heap, word: Word)
     ensures { heap.new ≡ copied_for heap.old word }
@@ -57,7 +56,7 @@ pub fn copy_for(heap: &mut Heap, word: Word)
     }
 }
 
-/// Where the object at an address is, once it is copied.
+/// Returns the address of the object at an address once it is copied.
 fn place_of(heap: &Heap, address: Addr) -> Addr
     ensures { result ≡ place_by (entry_at heap.now address) address }
 {
@@ -67,8 +66,8 @@ fn place_of(heap: &Heap, address: Addr) -> Addr
     }
 }
 
-/// The word that names an object's copy, by the object's address and the word's NMT bit. The copy is
-/// made first where it wasn't (the paper's read barrier; that a thread copies itself is ours).
+/// Returns the reference to an object's copy, by the object's address and the reference's NMT bit. Copies the object
+/// first if it isn't copied.
 #[tactic(auto, unfolding(model::specs::Moves::moved_word))]
 pub fn follow(heap: &mut Heap, address: Addr, nmt: bool) -> Word
     ensures heap { heap.new ≡ copied_first heap.old address }
@@ -79,8 +78,7 @@ pub fn follow(heap: &mut Heap, address: Addr, nmt: bool) -> Word
     Word::of(place, nmt)
 }
 
-/// The entry of a page that is being emptied, by the page's number and the entry's number from 0,
-/// if there is one.
+/// Returns the entry of a From page, by the page's number and the entry's number from 0, if it exists.
 #[tactic(auto, unfolding(model::specs::Emptying::entry_on), using(crate::proofs::Entries::entry_within, crate::proofs::Entries::page_low, crate::proofs::Entries::page_high))]
 fn entry_on(heap: &Heap, page: u32, entry: u32) -> Option<Forwarding>
     ensures value { result ≡ entry_on heap.now page entry }
@@ -97,13 +95,11 @@ fn entry_on(heap: &Heap, page: u32, entry: u32) -> Option<Forwarding>
     }
 }
 
-/// A worker copies the object of an entry of a page that is being emptied to where it is planned
-/// (the paper's Relocate phase), and answers the new address. Pages count from 1, entries and
-/// workers from 0.
+/// Copies the object of an entry of a From page to its planned place. The answer has the new address. Pages count
+/// from 1, entries and workers from 0.
 ///
-/// Refused while the collector is idle (`Phase`), while pages are being protected and a thread hasn't
-/// crossed (`NotCrossed`), where the page isn't being emptied or has no such entry (`BadIndex`), and
-/// where the object is copied already (`Copied`).
+/// Fails with `Phase` while the collector is idle; `NotCrossed` while pages are being protected and a thread hasn't
+/// crossed; `BadIndex` if the page isn't a From page or has no such entry; `Copied` if the object is already copied.
 #[tactic(auto, unfolding(model::specs::Emptying::copy_outcome), using(crate::proofs::Runs::entry_copied))]
 pub fn copy(heap: &mut Heap, worker: u32, page: u32, entry: u32) -> Reply
     requires { WorkerPasses heap.old worker (steps.Copy page entry) }

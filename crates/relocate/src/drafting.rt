@@ -1,5 +1,4 @@
-//! What is planned before pages are protected (the plan is ours): the live objects of pages, and
-//! their sizes.
+//! What is planned before pages are protected: the live objects of pages, and their sizes.
 
 ghost use Rattle.std.specs.Prelude.{◌≡◌, ◌<◌, ◌≤◌, ◌++◌, length, map, OnOk, IfOk};
 ghost use Rattle.model.specs.Plans.{offsets_from};
@@ -12,8 +11,8 @@ use heap::{Heap, Row};
 use refword::Addr;
 use std::alloc::{AllocError, Global};
 
-/// A place for each live object of a page, by the page's number from 1 and its row of live bits: where
-/// it is, until others are known. Their sizes are put behind others.
+/// Returns a place for each live object of a page, by the page's number from 1 and its live bitmap: its own address,
+/// until the plan is known. Appends the objects' sizes, in words, to `sizes`.
 fn draft_places(
     alloc: Global,
     heap: &Heap,
@@ -39,7 +38,8 @@ fn draft_places(
     Ok(places)
 }
 
-/// The same of a page by its number from 1. One without a record has no live objects.
+/// Returns the forwarding table of a page, by its number from 1, and appends the sizes of its live objects to
+/// `sizes`. A page without a record has no live objects.
 #[tactic(auto, unfolding(model::specs::Plans::live_offsets))]
 fn draft_page(
     alloc: Global,
@@ -64,17 +64,17 @@ fn draft_page(
     }
 }
 
-/// The live objects of pages, each an entry of its page's side array, and their sizes in the order
-/// of the pages and, in each, of their offsets.
+/// The live objects of pages, each an entry of its page's forwarding table, and their sizes in the order of the pages
+/// and, in each page, of offsets.
 #[derive(Drop)]
 pub(crate) struct Draft {
-    /// A side array for each page, in the pages' order.
+    /// A forwarding table for each page, in the pages' order.
     pub sides: Vec<Side>,
-    /// How many words each object has.
+    /// The size of each object, in words.
     pub sizes: Vec<u32>,
 }
 
-/// The draft of pages, each of which has a number of the heap's.
+/// Returns the draft of pages, by their numbers from 1. Fails only if out of memory.
 pub(crate) fn draft_pages(alloc: Global, heap: &Heap, pages: &[u32]) -> Result<Draft, AllocError>
     requires low { Each pages.now (λ n. 0 < n) }
     requires high { Each pages.now (λ n. n ≤ heap.now.store.count) }

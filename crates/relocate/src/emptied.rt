@@ -1,4 +1,4 @@
-//! Pages that are being emptied (the paper's Relocate phase).
+//! Pages that are being emptied.
 
 ghost use Rattle.std.specs.Prelude.{◌≡◌};
 ghost use Rattle.model.specs.Stores.{is_from, state_at};
@@ -6,7 +6,7 @@ ghost use Rattle.model.specs.Stores.{is_from, state_at};
 use heap::Heap;
 use model::PageState;
 
-/// Whether a page, by its number from 1, is being emptied, and has memory.
+/// Returns whether a page, by its number from 1, is a From page, which has memory.
 pub(crate) fn is_emptied(heap: &Heap, page: u32) -> bool
     ensures { result ≡ is_from (state_at heap.now.store page) }
 {

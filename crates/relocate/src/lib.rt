@@ -1,7 +1,4 @@
-//! Objects are copied to where they are planned, and emptied pages give their memory up.
-//!
-//! The paper is Click, Tene and Wolf, "The Pauseless GC Algorithm" (VEE 2005). A comment that names
-//! one of its sections tells a rule of that section; all else is ours.
+//! Relocation: protecting pages, copying their objects to planned places, and releasing their memory.
 #![tactic(auto)]
 
 mod copying;

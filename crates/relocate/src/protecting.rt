@@ -1,4 +1,4 @@
-//! Pages are protected (the paper's Relocate phase; targets, and the plan, are ours).
+//! Protecting pages.
 
 ghost use Rattle.std.specs.Prelude.{◌≡◌, ◌<◌, ◌≤◌, [], false, map, length, vec_capacity, IfOk};
 ghost use Rattle.model.specs.Owning.{Each};
@@ -22,18 +22,19 @@ use heap::{Heap, PageMemory};
 use model::{Answer, Phase, Refusal, Reply};
 use std::alloc::{AllocError, Global};
 
-/// All that a protection needs memory for.
+/// Everything for which protecting pages allocates memory.
 #[derive(Drop)]
 struct Preparation {
-    /// Where the live objects of the pages go.
+    /// The places of the pages' live objects.
     plan: Plan,
-    /// A side array for each page, in the pages' order.
+    /// A forwarding table for each page, in the pages' order.
     sides: Vec<Side>,
-    /// Room for the pages of the targets.
+    /// An empty list with space for the pages of the targets.
     targets: Vec<u32>,
 }
 
-/// Makes the plan of pages, their side arrays, and room for targets. It changes nothing.
+/// Returns the plan of pages, their forwarding tables, and a list with space for the targets. It doesn't change the
+/// heap. Fails only if out of memory.
 fn prepare(alloc: Global, heap: &Heap, pages: &[u32]) -> Result<Preparation, AllocError>
     requires low { Each pages.now (λ n. 0 < n) }
     requires high { Each pages.now (λ n. n ≤ heap.now.store.count) }
@@ -52,8 +53,8 @@ fn prepare(alloc: Global, heap: &Heap, pages: &[u32]) -> Result<Preparation, All
     })
 }
 
-/// Opens the targets of a plan on their memory, gives the pages their side arrays, and protects them.
-/// It takes no memory.
+/// Opens the targets of a plan on their memory, gives the pages their forwarding tables, and protects them. It
+/// allocates nothing.
 fn protect_prepared(heap: &mut Heap, pages: &[u32], prepared: Preparation, memory: Vec<PageMemory>)
     requires idle { heap.old.phase ≡ Idle }
     requires closed { Each pages.now (λ n. state_at heap.old.store n ≡ Closed) }
@@ -76,14 +77,12 @@ fn protect_prepared(heap: &mut Heap, pages: &[u32], prepared: Preparation, memor
     heap.raw_start_protection(pages);
 }
 
-/// Closed pages are protected, and targets opened for their live objects (the paper's Relocate
-/// phase; targets, and the plan, are ours): all threads have still to cross. It answers how many
-/// objects go to how many targets. Pages count from 1, workers from 0.
+/// Protects closed pages and opens targets for their live objects; all threads count as not crossed. The answer has
+/// the numbers of objects and of targets. Pages count from 1, workers from 0.
 ///
-/// Refused where a mark runs or pages are protected (`Phase`); for the first page that is open with
-/// a buffer lent (`Lent`) or else not closed (`Unripe`); where fewer frames are free than there are
-/// targets (`NoFrames`, with both numbers), or fewer pages unused (`NoPages`). `Memory` where a
-/// growth was refused: the heap is then as it was.
+/// Fails with `Phase` while a mark runs or pages are protected; `Lent` or `Unripe` for the first page that is open
+/// with a buffer lent, or else not closed; `NoFrames`, with both numbers, if fewer frames are free than there are
+/// targets; `NoPages` if fewer pages are unused; `Memory` if out of memory. The heap is then unchanged.
 #[tactic(auto, unfolding(model::specs::Protections::protect_outcome))]
 pub fn protect(heap: &mut Heap, worker: u32, pages: &[u32]) -> Reply
     requires { WorkerPasses heap.old worker (steps.Protect pages.now) }

@@ -1,4 +1,4 @@
-//! Pages give their memory up (the paper's Relocate phase).
+//! Releasing pages.
 
 ghost use Rattle.std.specs.Prelude.{◌≡◌};
 ghost use Rattle.model.specs.Emptying.{crossed_if_protecting, release_outcome};
@@ -10,7 +10,7 @@ use crate::emptied::is_emptied;
 use heap::Heap;
 use model::{Answer, Phase, Refusal, Reply};
 
-/// Where pages are being protected, whether all threads have crossed. Refused as `NotCrossed`.
+/// Tests that all threads have crossed if pages are being protected. Fails with `NotCrossed`.
 #[tactic(auto, unfolding(model::specs::Emptying::crossed_if_protecting))]
 pub(crate) fn crossed_if_protecting(heap: &Heap) -> Result<(), Refusal>
     ensures { result ≡ crossed_if_protecting heap.now }
@@ -22,14 +22,12 @@ pub(crate) fn crossed_if_protecting(heap: &Heap) -> Result<(), Refusal>
     }
 }
 
-/// A page that is being emptied, and whose objects are all copied, gives its memory up: its frame is
-/// free at once, before the references to its objects are corrected, and its side array stays (the
-/// paper's Relocate phase). It answers how many frames are free then. Pages count from 1, workers
-/// from 0.
+/// Releases a From page whose objects are all copied: its frame is free at once, before references to its objects are
+/// corrected, and its forwarding table stays. The answer has the number of frames that are free then. Pages count
+/// from 1, workers from 0.
 ///
-/// Refused while the collector is idle (`Phase`), while pages are being protected and a thread
-/// hasn't crossed (`NotCrossed`), where the page isn't being emptied (`BadIndex`), and where an
-/// object of it isn't copied (`Uncopied`).
+/// Fails with `Phase` while the collector is idle; `NotCrossed` while pages are being protected and a thread hasn't
+/// crossed; `BadIndex` if the page isn't a From page; `Uncopied` if one of its objects isn't copied.
 #[tactic(auto, unfolding(model::specs::Emptying::release_outcome, model::specs::Protections::free_count))]
 pub fn release(heap: &mut Heap, worker: u32, page: u32) -> Reply
     requires { WorkerPasses heap.old worker (steps.Release page) }

@@ -1,5 +1,4 @@
-//! What is asked before pages are protected (ours): the pages are closed, and there is room for the
-//! targets.
+//! The tests before pages are protected: the pages are closed, and there is space for the targets.
 
 ghost use Rattle.std.specs.Prelude.{◌≡◌, ◌<◌, ◌≤◌, IfOk, OnOk};
 ghost use Rattle.model.specs.Owning.{Each};
@@ -10,8 +9,8 @@ ghost use Rattle.model.specs.declared.records.PageState.TheVariants.{Closed};
 use heap::Heap;
 use model::{PageState, Refusal};
 
-/// Whether a page, by its number, may be protected: a closed one. Refused as `Lent` where it is open
-/// and a thread has a buffer on it, and as `Unripe` where it isn't closed.
+/// Tests whether a page, by its number, may be protected, which a closed one may. Fails with `Lent` if it is open
+/// and a thread has a buffer on it, and with `Unripe` if it isn't closed.
 #[tactic(auto, unfolding(model::specs::Protections::ripe))]
 fn ripe(heap: &Heap, page: u32) -> Result<(), Refusal>
     ensures value { result ≡ ripe heap.now page }
@@ -28,8 +27,8 @@ fn ripe(heap: &Heap, page: u32) -> Result<(), Refusal>
     }
 }
 
-/// Whether all these pages, by their numbers, may be protected. The first that may not is refused as
-/// `Lent` or `Unripe`.
+/// Tests whether all these pages, by their numbers, may be protected. Fails with `Lent` or `Unripe` for the first
+/// that may not.
 pub(crate) fn all_ripe(heap: &Heap, pages: &[u32]) -> Result<(), Refusal>
     ensures value { result ≡ all_ripe heap.now pages.now }
     ensures closed { IfOk result (λ _. Each pages.now (λ n. state_at heap.now.store n ≡ Closed)) }
@@ -43,8 +42,8 @@ pub(crate) fn all_ripe(heap: &Heap, pages: &[u32]) -> Result<(), Refusal>
     Ok(())
 }
 
-/// Whether there are frames and pages for so many targets. Refused as `NoFrames`, with how many are
-/// needed and how many are free, and as `NoPages`.
+/// Tests whether there are frames and pages for `need` targets. Fails with `NoFrames`, with the numbers of needed
+/// and of free frames, or with `NoPages`.
 #[tactic(auto, unfolding(model::specs::Protections::room_for, model::specs::Protections::free_count))]
 pub(crate) fn room_for(heap: &Heap, need: usize) -> Result<(), Refusal>
     ensures value { result ≡ room_for heap.now.store need }

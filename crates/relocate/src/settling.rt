@@ -1,5 +1,4 @@
-//! Live objects get their places in targets (the plan is ours), and their pages the side arrays that
-//! say so (the paper's Relocate phase).
+//! Storing the plan: live objects get their places in targets, and their pages get forwarding tables.
 
 ghost use Rattle.std.specs.List.{sum_by};
 ghost use Rattle.std.specs.Prelude.{◌≡◌, ◌+◌, ◌-◌, slice_set, ◌<◌, ◌≤◌, ℕ, Some, drop, length, slice_get};
@@ -13,7 +12,7 @@ ghost use Rattle.relocate.specs.Drafts.{with_places, with_placed_drafts};
 use forward::{Plan, Side};
 use heap::Heap;
 
-/// Gives the object of an entry the place of a number in a plan.
+/// Gives an entry's object a place of a plan, by its number.
 fn settle_one(
     heap: &Heap,
     plan: &Plan,
@@ -35,8 +34,8 @@ fn settle_one(
     }
 }
 
-/// Gives the objects of a side array the places of a plan from a number on, in targets of which
-/// these are the pages, by their numbers from 1.
+/// Gives the objects of a forwarding table the places of a plan from number `first` on. The targets are pages, by
+/// their numbers from 1.
 pub(crate) fn settle(heap: &Heap, plan: &Plan, first: usize, targets: &[u32], side: &mut Side)
     requires enough { first + length side.old ≤ length plan.now }
     requires low { Each targets.now (λ n. 0 < n) }
@@ -51,8 +50,8 @@ pub(crate) fn settle(heap: &Heap, plan: &Plan, first: usize, targets: &[u32], si
     }
 }
 
-/// Gives a page a side array whose objects have the places of a plan from a number on. It answers
-/// the number of the next place.
+/// Gives a page a forwarding table whose objects have the places of a plan from number `first` on. Returns the number
+/// of the next place.
 fn settle_page(
     heap: &mut Heap,
     page: u32,
@@ -82,8 +81,8 @@ fn settle_page(
     first + count
 }
 
-/// Gives pages side arrays, in the pages' order, whose objects have the places of a plan, one
-/// behind the other. What the list of them held is lost.
+/// Gives pages their forwarding tables, in the pages' order, whose objects have the places of a plan, one table's
+/// after the other's. The tables in the list `sides` are lost.
 pub(crate) fn settle_pages(
     heap: &mut Heap,
     pages: &[u32],

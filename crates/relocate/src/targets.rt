@@ -1,4 +1,4 @@
-//! Targets are opened: pages for objects that move, which are given out to nobody (ours).
+//! Opening targets: pages that receive copies, in which nobody else allocates.
 
 ghost use Rattle.std.specs.Prelude.{◌≡◌, ◌+◌, ◌<◌, ◌≤◌, ◌++◌, ◌∷◌, [], ℕ, suc, length, vec_len, vec_capacity};
 ghost use Rattle.std.specs.Prelude.{IfOk};
@@ -10,7 +10,7 @@ ghost use Rattle.relocate.specs.Targets.{AreBlank, KeepsClosed};
 use heap::{Heap, PageMemory};
 use std::alloc::AllocError;
 
-/// Memory for so many targets. Fails only by memory.
+/// Returns memory for `count` targets. Fails only if out of memory.
 pub(crate) fn blank_targets(heap: &mut Heap, count: usize) -> Result<Vec<PageMemory>, AllocError>
     ensures blank { IfOk result (λ v. AreBlank heap.old.store.words count v.items) }
     ensures stays { heap.new ≡ heap.old }
@@ -22,7 +22,7 @@ pub(crate) fn blank_targets(heap: &mut Heap, count: usize) -> Result<Vec<PageMem
     Ok(memory)
 }
 
-/// Takes the memory of one target.
+/// Takes the memory of one target from a list.
 fn take_blank(memory: &mut Vec<PageMemory>) -> PageMemory
     requires { 0 < length memory.old.items }
     ensures { memory.old.items ≡ memory.new.items ++ result ∷ [] }
@@ -30,8 +30,8 @@ fn take_blank(memory: &mut Vec<PageMemory>) -> PageMemory
     memory.pop().unwrap()
 }
 
-/// Opens the next target, for which a frame is free and a page unused, on this memory: its page, by
-/// its number from 1.
+/// Opens the next target on this memory, and returns its page's number, from 1. A frame must be free and a page
+/// unused.
 fn open_next(heap: &mut Heap, memory: PageMemory) -> u32
     requires frame { 0 < free_count heap.old.store }
     requires page { 0 < unused_count heap.old.store }
@@ -51,7 +51,7 @@ fn open_next(heap: &mut Heap, memory: PageMemory) -> u32
     }
 }
 
-/// Adds a page for which there is room.
+/// Adds a page to a list that has space for it.
 fn add(pages: &mut Vec<u32>, page: u32)
     requires { vec_len pages.old < vec_capacity pages.old }
     ensures added { pages.new.items ≡ pages.old.items ++ page ∷ [] }
@@ -60,8 +60,8 @@ fn add(pages: &mut Vec<u32>, page: u32)
     let _ = pages.push(page);
 }
 
-/// Opens so many targets, for which frames are free and pages unused, on so much memory, and lists
-/// their pages, by their numbers from 1, in an empty list that has room for them.
+/// Opens `count` targets on this memory, and lists their pages' numbers, from 1, in an empty list that has space for
+/// them. Frames must be free and pages unused for all.
 pub(crate) fn open_targets(
     heap: &mut Heap,
     count: usize,

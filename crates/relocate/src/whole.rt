@@ -1,5 +1,4 @@
-//! All objects of a page are copied at once (the paper's Relocate phase; that they are copied by
-//! runs, one for each target, and by halves on threads, is ours).
+//! Copying all objects of a page at once: by runs, one for each change of target, and by halves on threads.
 
 ghost use Rattle.std.specs.Prelude.{◌≡◌, ◌+◌, ◌<◌, ◌≤◌, length, Some, true, slice_get};
 ghost use Rattle.heap.specs.Runs.{with_entries};
@@ -18,14 +17,14 @@ use model::{Phase, Refusal};
 use page::PieceGate;
 use std::thread::Threads;
 
-/// A run of entries: the target of all of them, and how many there are.
+/// A run of entries: their target, and how many they are.
 #[derive(Clone, Copy)]
 struct Run {
     target: u64,
     count: u32,
 }
 
-/// The target that the object of an entry goes to, if there is such an entry.
+/// Returns the target of an entry's object, if there is such an entry.
 #[tactic(auto, using(crate::proofs::Runs::none_goes, crate::proofs::Runs::placed_goes))]
 fn target_of(heap: &Heap, page: u64, entry: u32) -> Option<u64>
     ensures { result ≡ goes_to heap.now.store.words (slice_get (of_page heap.now.sides page) entry) }
@@ -36,7 +35,7 @@ fn target_of(heap: &Heap, page: u64, entry: u32) -> Option<u64>
     }
 }
 
-/// Whether the object of an entry goes to a target.
+/// Returns whether an entry's object goes to a target.
 #[inline(always)]
 #[tactic(auto, using(crate::proofs::Runs::placed_there))]
 fn goes_to(heap: &Heap, page: u64, entry: u32, target: u64) -> bool
@@ -49,8 +48,8 @@ fn goes_to(heap: &Heap, page: u64, entry: u32, target: u64) -> bool
     }
 }
 
-/// How many entries of a page, from a number on and below another, go to a target, one behind the
-/// other. The first one does.
+/// Returns how many consecutive entries of a page, from number `first` on and below `end`, have a target. The first
+/// one must have it.
 #[tactic(auto, using(crate::proofs::Runs::run_begins, crate::proofs::Runs::run_more))]
 fn run_length(heap: &Heap, page: u64, first: u32, end: u32, target: u64) -> u32
     requires some { first < end }
@@ -67,7 +66,7 @@ fn run_length(heap: &Heap, page: u64, first: u32, end: u32, target: u64) -> u32
     count
 }
 
-/// The run that begins with an entry of a page.
+/// Returns the run that begins with an entry of a page.
 #[tactic(auto, using(crate::proofs::Runs::entry_goes))]
 fn run_at(heap: &Heap, page: u64, first: u32, end: u32) -> Run
     requires some { first < end }
@@ -92,7 +91,7 @@ fn copy_runs(heap: &mut Heap, page: u64, count: u32)
     }
 }
 
-/// The same, by halves on threads.
+/// Copies the objects of all entries of a page, by halves on threads.
 fn copy_runs_by<R: Threads + Sync, G: PieceGate + Sync>(
     rt: &R,
     gate: &G,
@@ -115,9 +114,8 @@ fn copy_runs_by<R: Threads + Sync, G: PieceGate + Sync>(
     }
 }
 
-/// Whether a page's objects may be copied. Refused while the collector is idle (`Phase`), while pages
-/// are being protected and a thread hasn't crossed (`NotCrossed`), and where the page isn't being
-/// emptied (`BadIndex`).
+/// Tests whether a page's objects may be copied. Fails with `Phase` while the collector is idle; `NotCrossed` while
+/// pages are being protected and a thread hasn't crossed; `BadIndex` if the page isn't a From page.
 fn may_copy_page(heap: &Heap, page: u32) -> Result<(), Refusal>
     ensures { result ≡ may_copy_page heap.now page }
 {
@@ -131,13 +129,12 @@ fn may_copy_page(heap: &Heap, page: u32) -> Result<(), Refusal>
     Ok(())
 }
 
-/// All objects of a page that is being emptied and that aren't copied yet are copied to where they
-/// are planned (the paper's Relocate phase), and it answers how many. It does what `copy` of each
-/// entry does, one after the other; the words of all that go to one target are copied at once.
-/// Pages count from 1.
+/// Copies all objects of a From page that aren't copied yet to their planned places, and returns how many. It has the
+/// effect of `copy` of each entry in turn; the words of all objects with one target are copied at once. Pages count
+/// from 1.
 ///
-/// Refused while the collector is idle (`Phase`), while pages are being protected and a thread hasn't
-/// crossed (`NotCrossed`), and where the page isn't being emptied (`BadIndex`). It takes no memory.
+/// Fails with `Phase` while the collector is idle; `NotCrossed` while pages are being protected and a thread hasn't
+/// crossed; `BadIndex` if the page isn't a From page. It allocates nothing.
 #[tactic(auto, using(crate::proofs::PageCopies::refused, crate::proofs::PageCopies::accepted))]
 pub fn copy_page(heap: &mut Heap, page: u32) -> Result<u32, Refusal>
     ensures { Does heap.old (said answers.CopiedPage result) heap.new (copy_page_outcome heap.old page) }
@@ -149,12 +146,10 @@ pub fn copy_page(heap: &mut Heap, page: u32) -> Result<u32, Refusal>
     Ok(copied)
 }
 
-/// What `copy_page` does, by halves on threads: the entries that go to one target are cut in two at
-/// their middle, rounded down, and so again, to a depth (above 4 counts as 4), and each piece is
-/// copied on a thread of its own. The gate is told of each piece before it is copied, by the thread
-/// that does. Where a thread can't be started, the one that calls copies the piece afterwards, and
-/// no memory is taken. It waits for the threads; what starts objects and what is noted of them is
-/// written after they have ended.
+/// Does what `copy_page` does, by halves on threads: each run of entries with one target is halved, rounded down, to
+/// a depth (above 4 counts as 4), and each piece is copied on a thread of its own, which calls the gate before. If a
+/// thread can't be started, the caller's thread copies the piece afterwards, and no memory is allocated. It waits for
+/// the threads; start bits and copied flags are written after they have ended.
 #[tactic(auto, using(crate::proofs::PageCopies::refused, crate::proofs::PageCopies::accepted))]
 pub fn copy_page_by<R: Threads + Sync, G: PieceGate + Sync>(
     rt: &R,

@@ -2,10 +2,9 @@
 #![tactic(auto)]
 
 ghost use Rattle.std.specs.Prelude.{IfErr};
-ghost use Rattle.serving_runs.specs.Serving.{IsStatus};
+ghost use Rattle.cli.specs.Running.{IsStatus};
 
-use serving_modes::serve;
-use serving_runs::{AskFault, Asked, ask, not_opened};
+use cli::{AskFault, Asked, ask, not_opened, serve};
 use std::process::ExitCode;
 use std::rt::Files;
 use std::{env, fs, io};

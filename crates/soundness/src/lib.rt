@@ -1,10 +1,10 @@
 //! That the image of a heap is sound. There is no code here. One function without a body has this
 //! as its clause, and a crate that needs it calls it.
 //!
-//! The verifier (`verify`) knows nothing of the collector: an image is memory and roots as plain
-//! data, and what it asks of them is said of any data. The collector's own invariant
-//! (`refinement`, `laws`) is said of the state of a heap. Here the two meet: a state that stands
-//! for a plain heap has an image in which the verifier finds nothing wrong.
+//! The verifier (`verify`) knows nothing of the collector: an image is memory and roots as plain data,
+//! and soundness is defined for any data. The collector's own invariant (`refinement`, `laws`) is
+//! about the state of a heap. Here the two meet: a state that represents a reference model has an
+//! image in which the verifier finds no fault.
 #![tactic(auto)]
 
 ghost use Rattle.soundness.specs.Laws.{ImagesSound};

@@ -1,4 +1,4 @@
--- The count of threads that have still to cross.
+-- The number of threads that haven't crossed.
 use Rattle.std.proofs.Common.{◌≡◌, ℕ, zero, suc, ◌-◌, ◌*◌, ◌<◌, ◌≤◌, Bool, true, false, not, List, [], ◌∷◌, map}
 use Rattle.std.proofs.Common.{replicate, set, length, get_or, position, is_none, take, drop, ◌++◌}
 use Rattle.std.proofs.Common.{Option, Some, None, refl, sym, ◌∙◌, ap, subst, arith}
@@ -26,7 +26,7 @@ none_behind n registers ts e =
     no_times : (n : ℕ) → n * 0 ≡ 0
     no_times n = omega arith
 
--- a thread that is changed, and has crossed as before, counts as before
+-- a changed thread that has crossed exactly if it had counts as before
 pub still_behind : (ts : List ThreadState) (i n : ℕ) (x y : ThreadState) → n ≡ behind_count ts → i < length ts
     → x ≡ get_or ts i x → y.crossed ≡ x.crossed → n ≡ behind_count (set ts i y)
 still_behind ts i n x y e h read same =
@@ -34,7 +34,7 @@ still_behind ts i n x y e h read same =
     let alike : counted_behind y ≡ counted_behind x = ap (λ b. as_number (not b)) same in
     omega (arith, e, alike, count_set is_behind ts i x y there)
 
--- a thread that has still to cross is counted
+-- a thread that hasn't crossed is counted
 pub counted : (ts : List ThreadState) (i n left : ℕ) (x : ThreadState) → n ≡ behind_count ts → i < length ts
     → x ≡ get_or ts i x → left ≡ counted_behind x → left ≤ n
 counted ts i n left x e h read is = by_truth (not x.crossed) refl
@@ -45,7 +45,7 @@ counted ts i n left x e h read is = by_truth (not x.crossed) refl
         let one : counted_behind x ≡ 1 = ap as_number f in
         omega (arith, is, one, e, count_positive is_behind ts i x (get_read ts i x h read) f)
 
--- a thread has crossed: the count is less by as much as it counted
+-- a thread crosses: the number falls by what it counted
 pub one_less : (ts : List ThreadState) (i n left : ℕ) (x y : ThreadState) → n ≡ behind_count ts → i < length ts
     → x ≡ get_or ts i x → left ≡ counted_behind x → y.crossed ≡ true → n - left ≡ behind_count (set ts i y)
 one_less ts i n left x y e h read is crossed =
@@ -53,7 +53,7 @@ one_less ts i n left x y e h read is crossed =
     let none : counted_behind y ≡ 0 = ap (λ b. as_number (not b)) crossed in
     omega (arith, e, is, none, count_set is_behind ts i x y there)
 
--- where all have still to cross, they are as many as the threads
+-- if none has crossed, all threads count
 all_behind : (ts new : List ThreadState) → new ≡ map (set_crossed_of false) ts → length new ≡ behind_count new
 all_behind ts new e = subst (λ us. length us ≡ behind_count us) (sym e) (each ts)
   where
@@ -64,7 +64,7 @@ all_behind ts new e = subst (λ us. length us ≡ behind_count us) (sym e) (each
         let rest = map (set_crossed_of false) ts in
         omega (arith, each ts, sum_by-cons counted_behind (set_crossed_of false t) rest)
 
--- where none counts, there is no first one, and else there is
+-- the number is 0 exactly if there is no first thread that hasn't crossed
 pub all_crossed : (ts : List ThreadState) (n : ℕ) → n ≡ behind_count ts → (n == 0) ≡ is_none (first_behind ts)
 unfolding first_behind
 all_crossed ts n e = by_found (position is_behind ts) refl
@@ -88,7 +88,7 @@ all_crossed ts n e = by_found (position is_behind ts) refl
         let passes = position_passes is_behind ts i at.0 f at.1 in
         positive n (omega (arith, e, count_positive is_behind ts i at.0 at.1 passes))
 
--- where none counts, there is no first one
+-- if the number is 0, there is no first such thread
 pub none_found : (ts : List ThreadState) (n : ℕ) → n ≡ behind_count ts → (n == 0) ≡ true → None ≡ first_behind ts
 none_found ts n e h = sym (is_missing (first_behind ts) (sym (all_crossed ts n e) ∙ h))
   where
@@ -96,7 +96,7 @@ none_found ts n e h = sym (is_missing (first_behind ts) (sym (all_crossed ts n e
     is_missing None e = refl
     is_missing (Some i) e = absurd (cc)
 
--- the same, as they are written back over the list that they were lent of
+-- the same, after the borrow of the list ends
 pub all_behind_back : (items old new : List ThreadState) (len n : ℕ) → n ≡ len → length old ≡ len
     → new ≡ map (set_crossed_of false) old → n ≡ behind_count (take len (new ++ drop (length new) items))
 all_behind_back items old new len n e many is =

@@ -5,7 +5,7 @@ use Rattle.std.proofs.Common.{◌∙◌, ap, arith, length-set}
 use Rattle.std.proofs.lemmas.List.{get_or-drop, take_more, take_more_set, map-append, drop-set-lt, take_all}
 use Rattle.std.proofs.lemmas.Grind.{drop_more_same}
 
--- the elements before an index are changed, and the others as they were
+-- the elements before an index are changed, and the others are as before
 pub record AreMapped (X : Type 0) (f : X → X) (old new : List X) (i : ℕ) : Type 0 where
   pub before : take i new ≡ map f (take i old)
   pub behind : drop i new ≡ drop i old
@@ -40,7 +40,7 @@ pub length_mapped : {X Y : Type 0} (f : X → Y) (xs : List X) → length (map f
 length_mapped f [] = refl
 length_mapped f (x ∷ xs) = ap suc (length_mapped f xs)
 
--- a list that was changed element by element is as long as before
+-- a list that was changed element by element keeps its length
 pub mapped_many : {X : Type 0} (f : X → X) (old new : List X) (n : ℕ) → new ≡ map f old → length old ≡ n
     → length new ≡ n
 mapped_many f old new n e k = ap length e ∙ length_mapped f old ∙ k

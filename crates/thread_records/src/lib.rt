@@ -1,7 +1,4 @@
-//! The mutator threads of a heap, with how many have still to cross.
-//!
-//! The paper is Click, Tene and Wolf, "The Pauseless GC Algorithm" (VEE 2005). A comment that names
-//! one of its sections tells a rule of that section; all else is ours.
+//! The mutator threads of a heap, with the number of those that haven't crossed the open checkpoint.
 #![tactic(auto)]
 
 mod thread;

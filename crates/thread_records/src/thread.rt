@@ -1,5 +1,4 @@
-//! The record of a mutator thread. Its barrier, and whether it has crossed, are of the paper's read
-//! barrier and checkpoints; the rest is ours.
+//! The record of a mutator thread.
 
 ghost use Rattle.std.specs.Prelude.{◌≡◌, ◌<◌, length, slice_get, slice_set, replicate, None, IfOk, is_some, ◌||◌};
 ghost use Rattle.model.specs.States.{flat};
@@ -15,14 +14,14 @@ use refword::Word;
 use std::alloc::{AllocError, Global};
 use std::marker::Model;
 
-/// A mutator thread: its registers, its buffer, and what it takes part in.
+/// A mutator thread: its registers, its allocation buffer, its barrier, and whether it has crossed and is parked.
 #[derive(Debug, Drop)]
 pub struct Thread {
     registers: Vec<Word>,
     buffer: Option<Buffer>,
     crossed: bool,
     parked: bool,
-    /// Whether it is parked or has a barrier: most steps ask for neither.
+    /// Whether it is parked or has an open barrier. Most steps test both at once.
     held: bool,
     barrier: Option<Barrier>,
     tally: Tally,
@@ -47,7 +46,7 @@ impl Model for Thread {
     ghost invariant = { λ t. t.held ≡ (t.parked || is_some t.barrier) };
 }
 
-/// So many registers, which are null. Fails only by memory.
+/// Returns `count` registers, which are null. Fails only if out of memory.
 fn null_registers(alloc: Global, count: u32) -> Result<Vec<Word>, AllocError>
     ensures { IfOk result (λ v. v.items ≡ replicate count None) }
 {
@@ -59,8 +58,8 @@ fn null_registers(alloc: Global, count: u32) -> Result<Vec<Word>, AllocError>
 }
 
 impl Thread {
-    /// A thread of so many registers, in a heap 1 to 16, which are null. It has crossed, and it
-    /// runs. Fails only by memory.
+    /// Returns a thread of a number of registers (1 to 65,535 in a heap), which are null. It has crossed, and isn't
+    /// parked. Fails only if out of memory.
     pub(crate) fn new(alloc: Global, registers: u32) -> Result<Thread, AllocError>
         ensures { IfOk result (λ t. t ≡ blank_thread registers) }
     {
@@ -76,42 +75,42 @@ impl Thread {
         })
     }
 
-    /// The words in its registers, by number from 0.
+    /// Returns the references in its registers, by number from 0.
     pub fn registers(&self) -> &[Word]
         ensures { result.now ≡ self.now.registers }
     {
         &self.registers
     }
 
-    /// The buffer that it fills, if it has one.
+    /// Returns its allocation buffer, if it has one.
     pub fn buffer(&self) -> Option<Buffer>
         ensures { result ≡ self.now.buffer }
     {
         self.buffer
     }
 
-    /// Whether it has crossed the open checkpoint; true where none is open.
+    /// Returns whether it has crossed the open checkpoint; true if none is open.
     pub fn has_crossed(&self) -> bool
         ensures { result ≡ self.now.crossed }
     {
         self.crossed
     }
 
-    /// As how many it counts of those that have still to cross.
+    /// Returns 1 if it hasn't crossed the open checkpoint, else 0.
     pub(crate) fn counted_behind(&self) -> usize
         ensures { result ≡ counted_behind self.now }
     {
         if self.crossed { 0 } else { 1 }
     }
 
-    /// Whether it is blocked.
+    /// Returns whether it is parked.
     pub fn is_parked(&self) -> bool
         ensures { result ≡ self.now.parked }
     {
         self.parked
     }
 
-    /// Whether it is parked, or has a load that isn't finished.
+    /// Returns whether it is parked or has an open barrier.
     #[inline(always)]
     pub fn is_held(&self) -> bool
         ensures { result ≡ (self.now.parked || is_some self.now.barrier) }
@@ -119,21 +118,21 @@ impl Thread {
         self.held
     }
 
-    /// Its load that isn't finished, if there is one.
+    /// Returns its open barrier, if there is one.
     pub fn barrier(&self) -> Option<Barrier>
         ensures { result ≡ self.now.barrier }
     {
         self.barrier
     }
 
-    /// What its loads have come to.
+    /// Returns its barrier counters.
     pub fn tally(&self) -> Tally
         ensures { result ≡ self.now.tally }
     {
         self.tally
     }
 
-    /// The word in a register, by its number from 0; null where there is no such register.
+    /// Returns the reference in a register, by its number from 0; null if there is no such register.
     pub fn register(&self, number: u32) -> Word
         ensures { result ≡ flat (slice_get self.now.registers number) }
     {
@@ -143,7 +142,7 @@ impl Thread {
         }
     }
 
-    /// The word in a register, by its number from 0, if there is such a register.
+    /// Returns the reference in a register, by its number from 0, if there is such a register.
     #[inline(always)]
     pub fn find_register(&self, number: u32) -> Option<Word>
         ensures { result ≡ slice_get self.now.registers number }
@@ -154,7 +153,7 @@ impl Thread {
         }
     }
 
-    /// Writes a register, by its number from 0, if it is there.
+    /// Writes a register, by its number from 0, if it exists.
     pub(crate) fn set_register(&mut self, number: u32, word: Word)
         ensures { self.new ≡ set_register_of number word self.old }
     {
@@ -163,14 +162,14 @@ impl Thread {
         }
     }
 
-    /// Sets its buffer.
+    /// Sets its allocation buffer.
     pub(crate) fn set_buffer(&mut self, buffer: Option<Buffer>)
         ensures { self.new ≡ set_buffer_of buffer self.old }
     {
         self.buffer = buffer;
     }
 
-    /// Opens or changes its barrier, which counts as one more of a number.
+    /// Opens or changes its barrier, and increments a barrier counter.
     pub(crate) fn set_barrier(&mut self, barrier: Barrier, counter: Counter)
         ensures { self.new ≡ set_barrier_of barrier counter self.old }
     {
@@ -179,8 +178,7 @@ impl Thread {
         self.tally.count(counter);
     }
 
-    /// Ends its load: a register, by its number from 0, gets the word, if it is there, and the
-    /// barrier closes.
+    /// Ends its load: a register, by its number from 0, gets the reference, if it exists, and the barrier closes.
     pub(crate) fn set_loaded(&mut self, number: u32, word: Word)
         ensures { self.new ≡ set_loaded_of number word self.old }
     {
@@ -189,8 +187,8 @@ impl Thread {
         self.held = self.parked;
     }
 
-    /// Begins a load and ends it at once: a register, by its number from 0, gets the word, if it is there,
-    /// and the load is counted. Whatever barrier it would have had in between is closed again.
+    /// Begins a load and ends it at once: a register, by its number from 0, gets the reference, if it exists, and the
+    /// load is counted. No barrier remains open.
     #[inline(always)]
     #[tactic(auto, using(crate::proofs::AtOnce::read_at_once))]
     pub(crate) fn set_read(&mut self, number: u32, word: Word)
@@ -211,8 +209,7 @@ impl Thread {
         self.held = parked || self.barrier.is_some();
     }
 
-    /// Lets it have crossed the open checkpoint, or have it still to cross (the paper's
-    /// checkpoints).
+    /// Sets whether it has crossed the open checkpoint.
     pub(crate) fn set_crossed(&mut self, crossed: bool)
         ensures { self.new ≡ set_crossed_of crossed self.old }
     {

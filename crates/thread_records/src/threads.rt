@@ -1,5 +1,4 @@
-//! The threads of a heap. Their barriers and checkpoints are the paper's; the count of those that
-//! have still to cross, and being parked, are ours.
+//! The threads of a heap, and how many of them haven't crossed the open checkpoint.
 
 ghost use Rattle.std.specs.Prelude.{◌≡◌, ◌<◌, length, map, replicate, is_none, true, false, slice_get, IfOk, IfSome};
 ghost use Rattle.model.specs.Births.{hand_object};
@@ -22,11 +21,10 @@ use std::marker::Model;
 
 /// The mutator threads of a heap, by number from 0. A contract sees the list of them.
 ///
-/// It keeps how many have still to cross the open checkpoint, so that 'all have crossed' is known
-/// without a look at each.
+/// It keeps the number of those that haven't crossed the open checkpoint, so whether all have is one test.
 ///
-/// What changes a thread is a raw edit for the crate that makes a heap, and not for a user: it does
-/// what it says and tests nothing.
+/// Calls that change a thread are raw edits for the crate that makes a heap, not for users: each makes its change and
+/// tests nothing.
 #[derive(Debug, Drop)]
 pub struct Threads {
     list: Vec<Thread>,
@@ -56,7 +54,7 @@ fn blank_threads(alloc: Global, count: u32, registers: u32) -> Result<Vec<Thread
     Ok(threads)
 }
 
-/// All threads have still to cross.
+/// Sets all threads to not crossed.
 #[tactic(auto, using(crate::proofs::Looping::mapped_none, crate::proofs::Looping::mapped_more, crate::proofs::Looping::mapped_all))]
 fn uncross_each(threads: &mut [Thread])
     ensures { threads.new ≡ map (set_crossed_of false) threads.old }
@@ -66,7 +64,7 @@ fn uncross_each(threads: &mut [Thread])
     }
 }
 
-/// Whether a buffer, if there is one, lies on a page, by the page's number.
+/// Returns whether a buffer, if there is one, lies on a page, by the page's number.
 fn is_buffer_on(page: u32, buffer: Option<Buffer>) -> bool
     ensures { result ≡ is_buffer_on page buffer }
 {
@@ -77,8 +75,8 @@ fn is_buffer_on(page: u32, buffer: Option<Buffer>) -> bool
 }
 
 impl Threads {
-    /// So many threads, in a heap 1 to 64, of so many registers, 1 to 16, which are null. All have
-    /// crossed, and run. Fails only by memory.
+    /// Returns `count` threads (1 to 1,024 in a heap) with a number of registers each (1 to 65,535), which are null.
+    /// All have crossed, and none is parked. Fails only if out of memory.
     #[tactic(auto, using(crate::proofs::Counting::none_behind))]
     pub fn new(alloc: Global, count: u32, registers: u32) -> Result<Threads, AllocError>
         ensures { IfOk result (λ t. t ≡ replicate count (blank_thread registers)) }
@@ -87,15 +85,15 @@ impl Threads {
         Ok(Threads { list, behind: 0 })
     }
 
-    /// The threads, by number from 0.
+    /// Returns the threads, by number from 0.
     pub fn as_slice(&self) -> &[Thread]
         ensures { result.now ≡ self.now }
     {
         &self.list
     }
 
-    /// Whether a thread has crossed the open checkpoint, by its number from 0; true where there is
-    /// no such thread.
+    /// Returns whether a thread has crossed the open checkpoint, by its number from 0; true if there is no such
+    /// thread.
     #[inline(always)]
     pub fn has_crossed(&self, thread: u32) -> bool
         ensures { result ≡ has_crossed (slice_get self.now thread) }
@@ -106,7 +104,7 @@ impl Threads {
         }
     }
 
-    /// Whether a thread is parked, by its number from 0; false where there is no such thread.
+    /// Returns whether a thread is parked, by its number from 0; false if there is no such thread.
     #[inline(always)]
     pub fn is_parked(&self, thread: u32) -> bool
         ensures { result ≡ is_parked_in (slice_get self.now thread) }
@@ -117,7 +115,7 @@ impl Threads {
         }
     }
 
-    /// The load of a thread that isn't finished, by the thread's number from 0, if there is one.
+    /// Returns the open barrier of a thread, by the thread's number from 0, if there is one.
     #[inline(always)]
     pub fn barrier(&self, thread: u32) -> Option<Barrier>
         ensures { result ≡ barrier_of (slice_get self.now thread) }
@@ -128,8 +126,7 @@ impl Threads {
         }
     }
 
-    /// What the loads of a thread have come to, by its number from 0; `None` where there is no such
-    /// thread.
+    /// Returns the barrier counters of a thread, by its number from 0; `None` if there is no such thread.
     pub fn tally(&self, thread: u32) -> Option<Tally>
         ensures { result ≡ tally_in (slice_get self.now thread) }
     {
@@ -139,7 +136,7 @@ impl Threads {
         }
     }
 
-    /// The buffer of a thread, by its number from 0, if it has one.
+    /// Returns the allocation buffer of a thread, by its number from 0, if it has one.
     #[inline(always)]
     pub fn buffer(&self, thread: u32) -> Option<Buffer>
         ensures { result ≡ buffer_in (slice_get self.now thread) }
@@ -150,8 +147,7 @@ impl Threads {
         }
     }
 
-    /// The word in a register, null where there is no such register. Threads and registers count
-    /// from 0.
+    /// Returns the reference in a register; null if there is no such register. Threads and registers count from 0.
     #[inline(always)]
     pub fn register(&self, thread: u32, register: u32) -> Word
         ensures { result ≡ register_in (slice_get self.now thread) register }
@@ -162,7 +158,7 @@ impl Threads {
         }
     }
 
-    /// Whether all have crossed the open checkpoint (the paper's checkpoints).
+    /// Returns whether all have crossed the open checkpoint.
     #[tactic(auto, using(crate::proofs::Counting::all_crossed))]
     pub fn all_crossed(&self) -> bool
         ensures { result ≡ is_none (first_behind self.now) }
@@ -170,7 +166,7 @@ impl Threads {
         self.behind == 0
     }
 
-    /// The least that hasn't crossed the open checkpoint, by its number from 0.
+    /// Returns the lowest number, from 0, of a thread that hasn't crossed the open checkpoint, if there is one.
     #[tactic(auto, unfolding(model::specs::Checkpoints::first_behind), using(crate::proofs::Counting::none_found))]
     pub fn first_behind(&self) -> Option<usize>
         ensures value { result ≡ first_behind self.now }
@@ -182,7 +178,7 @@ impl Threads {
         self.list.iter().position(|thread| !thread.has_crossed())
     }
 
-    /// The least that has an open barrier, by its number from 0.
+    /// Returns the lowest number, from 0, of a thread that has an open barrier, if there is one.
     #[tactic(auto, unfolding(model::specs::Cycles::first_pending))]
     pub fn first_pending(&self) -> Option<usize>
         ensures value { result ≡ first_pending self.now }
@@ -193,7 +189,7 @@ impl Threads {
             .position(|thread| thread.barrier().is_some())
     }
 
-    /// Whether one has a buffer on a page, by the page's number.
+    /// Returns whether a thread has a buffer on a page, by the page's number.
     #[tactic(auto, unfolding(model::specs::Cycles::is_lent))]
     pub fn is_lent(&self, page: u32) -> bool
         ensures { result ≡ is_lent self.now page }
@@ -203,7 +199,7 @@ impl Threads {
             .any(|thread| is_buffer_on(page, thread.buffer()))
     }
 
-    /// Writes a register of a thread, if it is there.
+    /// Writes a register of a thread, if it exists.
     #[inline(always)]
     #[tactic(auto, using(crate::proofs::Counting::still_behind))]
     pub fn set_register(&mut self, thread: u32, register: u32, word: Word)
@@ -215,7 +211,7 @@ impl Threads {
         }
     }
 
-    /// Gives a thread, if it is there, another buffer, or none.
+    /// Sets the allocation buffer of a thread, if the thread exists.
     #[tactic(auto, using(crate::proofs::Counting::still_behind))]
     pub fn set_buffer(&mut self, thread: u32, buffer: Option<Buffer>)
         ensures { self.new ≡ change_at self.old thread (set_buffer_of buffer) }
@@ -226,8 +222,7 @@ impl Threads {
         }
     }
 
-    /// Opens or changes the barrier of a thread, if it is there, which counts as one more of a
-    /// number.
+    /// Opens or changes the barrier of a thread, if the thread exists, and increments one of its barrier counters.
     #[inline(always)]
     #[tactic(auto, using(crate::proofs::Counting::still_behind))]
     pub fn set_barrier(&mut self, thread: u32, barrier: Barrier, counter: Counter)
@@ -239,8 +234,8 @@ impl Threads {
         }
     }
 
-    /// Ends the load of a thread, if it is there: a register, by its number from 0, gets the word,
-    /// and the barrier closes.
+    /// Ends the load of a thread, if the thread exists: a register, by its number from 0, gets the reference, and the
+    /// barrier closes.
     #[inline(always)]
     #[tactic(auto, using(crate::proofs::Counting::still_behind))]
     pub fn set_loaded(&mut self, thread: u32, register: u32, word: Word)
@@ -252,8 +247,8 @@ impl Threads {
         }
     }
 
-    /// A load of a thread, if it is there, begins and ends at once: a register, by its number from 0, gets
-    /// the word, and the load is counted. Whatever barrier it would have had in between is closed again.
+    /// Begins a load of a thread, if the thread exists, and ends it at once: a register, by its number from 0, gets
+    /// the reference, and the load is counted. No barrier remains open.
     #[inline(always)]
     #[tactic(auto, using(crate::proofs::Counting::still_behind))]
     pub fn set_read(&mut self, thread: u32, register: u32, word: Word)
@@ -267,7 +262,7 @@ impl Threads {
         }
     }
 
-    /// Parks a thread, if it is there, or lets it run.
+    /// Parks a thread, if it exists, or lets it run.
     #[tactic(auto, using(crate::proofs::Counting::still_behind))]
     pub fn set_parked(&mut self, thread: u32, parked: bool)
         ensures { self.new ≡ change_at self.old thread (set_parked_of parked) }
@@ -278,8 +273,8 @@ impl Threads {
         }
     }
 
-    /// A thread, if it is there, has made an object: a register, by its number from 0, gets the
-    /// object's word, and its buffer is what is left of it.
+    /// Hands a new object to a thread, if the thread exists: a register, by its number from 0, gets the object's
+    /// reference, and the thread's buffer becomes `rest`.
     #[inline(always)]
     #[tactic(auto, using(crate::proofs::Counting::still_behind))]
     pub fn hand_object(&mut self, thread: u32, target: u32, word: Word, rest: Buffer)
@@ -292,7 +287,7 @@ impl Threads {
         }
     }
 
-    /// Lets a thread, if it is there, have crossed the open checkpoint (the paper's checkpoints).
+    /// Sets a thread, if it exists, to crossed.
     #[tactic(auto, using(crate::proofs::Counting::counted, crate::proofs::Counting::one_less))]
     pub fn set_crossed(&mut self, thread: u32)
         ensures { self.new ≡ change_at self.old thread (set_crossed_of true) }
@@ -305,7 +300,7 @@ impl Threads {
         }
     }
 
-    /// All have still to cross (the paper's checkpoints).
+    /// Sets all threads to not crossed.
     #[tactic(auto, using(crate::proofs::Counting::all_behind_back))]
     pub fn uncross_all(&mut self)
         ensures { self.new ≡ map (set_crossed_of false) self.old }

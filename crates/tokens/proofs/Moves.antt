@@ -1,4 +1,4 @@
--- Each step keeps what tokens know.
+-- Each step keeps the rule of the cell.
 use Rattle.std.proofs.Common.{◌≡◌, ◌≢◌, ◌<◌, ◌+◌, ◌++◌, ℕ, zero, suc, List, [], ◌∷◌, length, set, true, false, arith}
 use Rattle.std.proofs.Common.{refl, sym, ap, ◌∙◌, subst, ◌⊎◌, inl, inr, ⊎_elim, true≢false}
 use Rattle.std.specs.Prelude.{◌==◌, if◌then◌else◌}
@@ -16,7 +16,7 @@ off e = true≢false (sym e)
 
 -- ---- one view is changed
 
--- where the others fit, and the changed one does, all do
+-- if the other views fit, and the changed one does, all do
 set_fits : (seat : ℕ) (rows : Rows) (n : ℕ) (owner : ℕ → ℕ) (views : List View) (by : ℕ) (w : View)
     → ((j : ℕ) (u : View) → j ≢ by → get_elem? views j ≡ some u → Fits seat rows n owner j u)
     → Fits seat rows n owner by w
@@ -34,7 +34,7 @@ at_end (x ∷ xs) a b zero e = inl ((λ h. omega arith), e)
 at_end (x ∷ xs) a b (suc j) e =
     ⊎_elim (λ t. let n = t.0 in inl ((λ h. n (omega arith)), t.1)) (λ t. inr (ap suc t.0, t.1)) (at_end xs a b j e)
 
--- the same, where a view is added
+-- the same, if a view is added
 end_fits : (seat : ℕ) (rows : Rows) (n : ℕ) (owner : ℕ → ℕ) (views : List View) (w : View)
     → ((j : ℕ) (u : View) → j ≢ length views → get_elem? views j ≡ some u → Fits seat rows n owner j u)
     → Fits seat rows n owner (length views) w
@@ -55,7 +55,7 @@ owned_there owner t by = rw (eq-eqb t t refl) refl
 owned_else : (owner : ℕ → ℕ) (t by u : ℕ) → u ≢ t → owned owner t by u ≡ owner u
 owned_else owner t by u n = rw (ne_eqb u t n) refl
 
--- ---- the first view, and the first rows
+-- ---- the first view, and the first registers
 
 pub begins : (words : List ℕ) → Kept words (keeper_of [] 0 ∷ [])
 begins words = (0, [], 0, (λ t. 0), one)

@@ -1,4 +1,4 @@
-//! The cell that ties tokens to one another.
+//! The cell that relates tokens to one another.
 
 use atomic_table::{Join, Split};
 use crossbeam_utils::atomic::seq_cell::{Pass, RuledSeqCell};
@@ -6,7 +6,7 @@ use crossbeam_utils::rule::{Outcome, Protocol};
 use std::collections::LinkedList;
 use std::marker::{Brand, PhantomData};
 
-/// Names one cell: tokens of one name are of one cell.
+/// The name of a cell: tokens of one name are of one cell.
 pub trait CellName {
     ghost use Rattle.atomic_table.specs.Seated.{TableId};
 
@@ -19,7 +19,7 @@ impl CellName for Brand {
     ghost table = { no_table };
 }
 
-/// The registers of all threads, as a call is told them.
+/// The registers of all threads, as the argument of a call.
 pub trait Telling {
     ghost use Rattle.tokens.specs.Rows.{Rows};
 
@@ -32,11 +32,12 @@ impl Telling for Brand {
     ghost rows = { [] };
 }
 
-/// What a pass knows: the keeper's all rows, and a thread's its registers. No value of it is made.
+/// The ghost value of a pass: the keeper's has the registers of all threads, and a thread's those of the thread. It
+/// is never constructed at run time.
 pub struct View {
     /// Whether it is the keeper's.
     pub keeps: bool,
-    /// What the keeper knows of each thread's registers.
+    /// The registers of each thread, for a keeper.
     pub rows: LinkedList<LinkedList<Option<u64>>>,
     /// How many threads have got a token from the keeper.
     pub dealt: u64,
@@ -44,11 +45,11 @@ pub struct View {
     pub claims: bool,
     /// The number of its thread, from 0.
     pub thread: u64,
-    /// What it knows of its thread's registers.
+    /// The registers of its thread.
     pub registers: LinkedList<Option<u64>>,
 }
 
-/// The rule of the cell: what a thread's pass knows, the keeper's knows too.
+/// The rule of the cell: the registers in a thread's pass are those that the keeper's pass has for the thread.
 pub struct Knowing;
 
 impl Protocol<[u64; 1], View> for Knowing {
@@ -84,7 +85,7 @@ impl Outcome<[u64; 1], View> for Finds {
     ghost then = { Found };
 }
 
-/// A new token is dealt.
+/// Splits a new thread's token off the keeper's.
 pub struct Deals;
 
 impl Split<View> for Deals {
@@ -97,7 +98,7 @@ impl Split<View> for Deals {
     ghost right = { λ v. token_of v.dealt (row_of v.rows v.dealt) };
 }
 
-/// A token is laid to the keeper's, and taken from it again.
+/// Joins a thread's token with the keeper's, and splits it off again.
 pub struct Lays;
 
 impl Split<View> for Lays {

@@ -1,5 +1,6 @@
-//! Tokens that know what threads have in their registers: a keeper's, which knows those of all threads, and one for
-//! each thread, which knows its own. What a thread's token knows stays so until that token is shown at a change.
+//! Tokens whose ghost values are the registers of threads: a keeper's token has those of all threads, and each
+//! thread's token has its own. The registers in a thread's token stay the same until this token is passed to a call
+//! that changes them.
 #![tactic(auto)]
 
 pub mod cells;

@@ -1,4 +1,4 @@
--- A frame that is claimed twice, or isn't there.
+-- A frame that is claimed twice, or doesn't exist.
 use Rattle.std.proofs.Common.{cond, ◌≡◌, ◌<◌, ◌≤◌, ◌⊎◌, inl, inr, ℕ, ◌+◌, Bool, true, false, List, length, take}
 use Rattle.std.proofs.Common.{get_or, Option, Some, eq-eqb, eqb, MatchBool, ltb, refl, sym, ap, ◌∙◌, arith}
 use Rattle.std.specs.List.{count_by}
@@ -7,12 +7,12 @@ use Rattle.std.proofs.lemmas.Bool.{le-ltb, lt-ltb}
 use Rattle.verify.specs.Soundness.{as_number, is_frame, uses_of, IsOnce}
 use Rattle.verify.specs.Images.{ImageData, PageData}
 
--- a truth counts once at most
+-- a Boolean counts at most once
 as_number_most : (b : Bool) → as_number b ≤ 1
 as_number_most true = omega arith
 as_number_most false = omega arith
 
--- what counts what is noted, and then meets what is noted already or isn't there, counts too much
+-- a count that meets an element that was noted, or doesn't exist, is too high
 pub over_claimed : {X : Type 0} (p : X → Bool) (xs : List X) (k : ℕ) (d : X) (seen : Bool) (f m n base : ℕ)
     → k < length xs → p (get_or xs k d) ≡ true → base + count_by p (take k xs) ≡ as_number seen
     → (seen ≡ true) ⊎ (m ≤ f) → m ≡ n → as_number (ltb f n) < base + count_by p xs
@@ -25,18 +25,18 @@ over_claimed p xs k d seen f m n base l h e s q =
       | inr g ↦ rw (le-ltb f n (omega arith)) (omega arith)
     ]
 
--- the same, where nothing is counted before
+-- the same, if nothing was counted before
 pub over_claimed_first : {X : Type 0} (p : X → Bool) (xs : List X) (k : ℕ) (d : X) (seen : Bool) (f m n : ℕ)
     → k < length xs → p (get_or xs k d) ≡ true → count_by p (take k xs) ≡ as_number seen
     → (seen ≡ true) ⊎ (m ≤ f) → m ≡ n → as_number (ltb f n) < count_by p xs
 over_claimed_first p xs k d seen f m n l h e s q =
     let x = over_claimed p xs k d seen f m n 0 l h (omega arith) s q in omega arith
 
--- a page's frame is its frame
+-- a page has its own frame
 pub frame_here : (o : Option ℕ) (f : ℕ) → o ≡ Some f → is_frame f o ≡ true
 frame_here o f e = rw e (eq-eqb f f refl)
 
--- frames that were all noted without a clash are each there once
+-- frames that were all noted without a clash each exist once
 pub once_seen : (i : ImageData) (r : Bool) (ps : List PageData) (fs : List ℕ) (u v : List Bool) → ps ≡ i.pages
     → fs ≡ i.free
     → ((f : ℕ) → count_by (λ p. is_frame f p.frame) ps ≡ as_number (get_or u f false))

@@ -1,4 +1,4 @@
--- What a value leads to is an object's address, and these are below a bound.
+-- A good value leads to an object's address, and these are below a bound.
 use Rattle.std.proofs.Common.{◌≡◌, ◌<◌, ◌≤◌, ℕ, ◌+◌, ◌-◌, ◌*◌, ◌/◌, ◌%◌, Bool, true, false, cond, length}
 use Rattle.std.proofs.Common.{Option, Some, None, eqb, ltb, refl, sym, ap, ◌∙◌, arith}
 use Rattle.std.specs.List.{slice_get}
@@ -15,17 +15,17 @@ use Rattle.verify.specs.declared.objects.Object.{Object}
 use Rattle.verify.specs.Soundness.{IsReached}
 use Rattle.verify.specs.Walks.{target, space}
 
--- what a test lets through
+-- a result of a conditional whose test is true
 cond_through : {X : Type 0} (b : Bool) (o : Option X) (x : X) → cond b o None ≡ Some x → (b ≡ true) × (o ≡ Some x)
 cond_through true o x h = (refl, h)
 cond_through false o x h = absurd (none-some x h)
 
--- a test that fails for the one
+-- a result of a conditional whose test is false
 cond_past : {X : Type 0} (b : Bool) (o : Option X) (x : X) → cond b None o ≡ Some x → (b ≡ false) × (o ≡ Some x)
 cond_past true o x h = absurd (none-some x h)
 cond_past false o x h = (refl, h)
 
--- a page with a bit is there
+-- a page with a start bit exists
 page_of_start : (p : Option PageData) (o : ℕ) → starts_on p o ≡ true → (q : PageData) × (p ≡ Some q)
 page_of_start None o h = absurd (false≢true h)
 page_of_start (Some q) o h = (q, refl)
@@ -44,7 +44,7 @@ page_below i a q w h =
     rows_below : (p n w a : ℕ) → p ≤ n → a < p * w + w → a < (n + 1) * w
     rows_below p n w a h k = grind (arith)
 
--- what an object's start tells
+-- the start of an object is below the bound
 pub object_below : (i : ImageData) (a : ℕ) (o : Object) → 0 < i.words → object_at i a ≡ Some o → a < space i
 unfolding object_at
 object_below i a o w h =
@@ -55,7 +55,7 @@ object_below i a o w h =
     let y = ltb-true a addresses.LIMIT t.0 in
     grind (arith, nat_tests)
 
--- what was found is where it was looked for
+-- an address that was found is the one that was looked up
 found_start : (a c : ℕ) (o : Option Object) → start_found a o ≡ Some (Some c) → (a ≡ c) × ((x : Object) × (o ≡ Some x))
 found_start a c None h = absurd (none-some (Some c) h)
 found_start a c (Some x) h = (same_Some a c (same_Some (Some a) (Some c) h), (x, refl))
@@ -77,7 +77,7 @@ leads_object i v c h = by_word (read_word v) h
 pub leads_below : (i : ImageData) (v c : ℕ) → 0 < i.words → leads i v ≡ Some (Some c) → c < space i
 leads_below i v c w h = let x = leads_object i v c h in object_below i c x.0 w x.1
 
--- what a field leads to, by its value
+-- the address to which a field leads, by the field's value
 pub target_value : (i : ImageData) (a k c : ℕ) → target i a k ≡ Some c
     → (v : ℕ) × (field i a k ≡ Some v) × (leads i v ≡ Some (Some c))
 unfolding target
@@ -96,15 +96,15 @@ target_value i a k c h = by_field (field i a k) refl h
 pub target_below : (i : ImageData) (a k c : ℕ) → 0 < i.words → target i a k ≡ Some c → c < space i
 target_below i a k c w h = let t = target_value i a k c h in leads_below i t.0 c w t.2
 
--- what a field of a reached object leads to is reached
+-- the address to which a field of a reached object leads is reached
 pub target_reached : (i : ImageData) (a k c : ℕ) → IsReached i a → target i a k ≡ Some c → IsReached i c
 target_reached i a k c r h = let t = target_value i a k c h in IsReached.FromField c a k t.0 r t.1 t.2
 
--- a field that isn't there leads nowhere
+-- a field that doesn't exist leads nowhere
 pub no_target : (i : ImageData) (a k : ℕ) → field i a k ≡ None → target i a k ≡ None
 unfolding target
 no_target i a k h = rw h refl
 
--- what a field leads to is an object
+-- a field leads to an object
 pub target_object : (i : ImageData) (a k c : ℕ) → target i a k ≡ Some c → (x : Object) × (object_at i c ≡ Some x)
 target_object i a k c h = let t = target_value i a k c h in leads_object i t.0 c t.2

@@ -1,4 +1,4 @@
--- Looks at the objects that a walk has found, from one to the next.
+-- The objects that a walk has found, visited from one to the next.
 use Rattle.std.proofs.Common.{◌≡◌, ◌≢◌, ◌<◌, ◌≤◌, ◌⊎◌, inl, inr, ℕ, ◌+◌, List, Option, Some, None, refl, sym, ap}
 use Rattle.std.proofs.Common.{◌∙◌, cond, eqb, eq-eqb, ne_eqb, subst, arith}
 use Rattle.std.specs.Option.{option_map}
@@ -18,7 +18,7 @@ use Rattle.verify.specs.Walks.{spot_at}
 use Rattle.verify.proofs.Sharing.{least_same}
 
 module _ (i : ImageData) (spots : List Spot) (t : TellsReached i spots) where
-  -- what is empty isn't reached, and has no birth
+  -- an empty spot isn't reached, and has no birth
   unreached : (b : ℕ) → spot_at spots b ≡ Empty → IsReached i b → ⊥
   unreached b e r = apart (sym e ∙ t.all b r)
     where

@@ -16,7 +16,7 @@ use Rattle.verify.proofs.Leading.{leads_below, leads_object}
 use Rattle.verify.proofs.Visiting.{visited_keeps, visited_met}
 use Rattle.verify.proofs.Walking.{walk_met}
 
--- what was passed stays so
+-- what was passed stays passed
 met_kept : (v w : WalkData) (o : Option ℕ) → Keeps v w → IfSome o (IsMet v) → IfSome o (IsMet w)
 met_kept v w None k h = tt
 met_kept v w (Some a) k h = k a h
@@ -25,14 +25,14 @@ met_kept v w (Some a) k h = k a h
 pub passed_kept : (i : ImageData) (v w : WalkData) (x : Rank) → Keeps v w → PassedBefore i v x → PassedBefore i w x
 passed_kept i v w x k h = λ s b value e. let p = h s b value e in (p.0, p.1, met_kept v w p.0 k p.2)
 
--- the visit of what a root leads to
+-- the visit of the address to which a root leads
 pub record Visits (i : ImageData) (w : WalkData) (r : Root) (c : ℕ) : Type 0 where
   pub filled : spot_at w.spots c ≢ Empty
   pub walk : IsWalk i (with_visit w c)
   pub kept : Keeps w (with_visit w c)
   pub passed : IsPassed i (with_visit w c) r
 
--- it is one that a walk may make, and the root is passed then
+-- the walk may make this visit, and has passed the root then
 pub root_visit : (i : ImageData) (w : WalkData) (r : Root) (v c : ℕ) (o : Option ℕ) → 0 < i.words → IsWalk i w
     → root_value i r ≡ Some v → leads i v ≡ Some o → o ≡ Some c → Visits i w r c
 root_visit i w r v c o p h e f g =
@@ -51,7 +51,7 @@ target_from : (i : ImageData) (a k v c : ℕ) → field i a k ≡ Some v → lea
 unfolding target
 target_from i a k v c h e = rw (h, e) refl
 
--- a walk from all roots, when nothing waits any more, has come to all that is reached
+-- a walk from all roots with nothing waiting has come to all that is reached
 pub all_met : (i : ImageData) (w : WalkData) → IsWalk i w → w.waiting ≡ [] → PassedBefore i w (at 4 0 0)
     → (a : ℕ) → IsReached i a → IsMet w a
 all_met i w h n p _ (IsReached.FromRoot a v r e f) =
@@ -74,12 +74,12 @@ all_met i w h n p _ (IsReached.FromField c a k v r e f) =
     nowhere : (a : ℕ) → Contains [] a → ⊥
     nowhere a x = omega (arith, x.1)
 
--- so it tells what is reached
+-- so it has found exactly what is reached
 pub walk_tells : (i : ImageData) (w : WalkData) → IsWalk i w → w.waiting ≡ [] → PassedBefore i w (at 4 0 0)
     → TellsReached i w.spots
 walk_tells i w h n p = record { sized = h.sized; reached = h.reached; all = all_met i w h n p; objects = h.objects }
 
--- what was passed is good
+-- roots that were passed are good
 pub passed_good : (i : ImageData) (w : WalkData) (x : Rank) → PassedBefore i w x → GoodRootsBefore i x
 passed_good i w x p = λ r v b e. let q = p r b v e in (q.0, q.1)
 

@@ -1,4 +1,4 @@
--- What is found by halving a side array whose offsets rise, and whether they do.
+-- Binary search in a forwarding table whose offsets rise, and the test whether they do.
 use Rattle.std.proofs.Common.{◌≡◌, ◌≢◌, ◌⊎◌, inl, inr, ℕ, ◌+◌, ◌-◌, ◌<◌, ◌≤◌, false, cond, eqb}
 use Rattle.std.proofs.Common.{List, [], ◌∷◌, length, drop, get_or, Some, None}
 use Rattle.std.proofs.Common.{refl, sym, ap, ◌∙◌, subst, arith}
@@ -41,7 +41,7 @@ module _ (words : ℕ) (side : List Forwarding) (rising : AreRising words 0 side
       let rise : offset_at i ≤ offset_at j = grind (arith, ordered i j, λ (same : i ≡ j). ap offset_at same) in
       grind (arith, nat_tests))
 
-  -- the entry of a number has the offset
+  -- the entry of an index has the offset
   pub found : (i : ℕ) (f : Forwarding) → i < length side
       → HoldsAt (λ (g : Forwarding). nat_cmp g.offset o ≡ Equal) side i
       → f ≡ get_or side i f → copy_of f ≡ copy_in side o
@@ -51,7 +51,7 @@ module _ (words : ℕ) (side : List Forwarding) (rising : AreRising words 0 side
       ap (λ (g : Forwarding). g.offset) is ∙ ranked (get_or side i f).offset o Equal (sym (equal f)) in
       sym (ap (option_and_then copy_of) (same_entry side o ∙ entry_here words 0 side o i f rising here at))
 
-  -- none has it
+  -- no entry has it
   pub absent : (at : ℕ)
       → (IsNonDecreasingBy (λ (f : Forwarding). ordering_index (nat_cmp f.offset o)) side
       → IsPartitionPoint (λ (g : Forwarding). nat_cmp g.offset o ≡ Less)
@@ -78,7 +78,7 @@ module _ (words : ℕ) (side : List Forwarding) (rising : AreRising words 0 side
               ranked (offset_at i) o Greater (sym ((parted comparisons_rise).1 i none l b)) in
               omega (arith, more, here)
 
--- the last entries of a side array rise, and lie above what is below them
+-- the last entries of a forwarding table rise, and are above a bound
 pub record IsRisingFrom (words : ℕ) (side : List Forwarding) (k above : ℕ) : Type 0 where
   pub within : above ≤ words
   pub rises : (low : ℕ) → low ≤ above → AreRising words low (drop (length side - k) side)

@@ -1,4 +1,4 @@
--- The least birth that is shared.
+-- The lowest birth that is shared.
 use Rattle.std.proofs.Common.{◌≡◌, ◌<◌, ◌⊎◌, inl, inr, ℕ, ◌+◌, Bool, true, false, cond, List, length, Option}
 use Rattle.std.proofs.Common.{Some, None, leb, refl, sym, ◌∙◌, subst, arith}
 use Rattle.std.specs.Option.{option_map}
@@ -14,7 +14,7 @@ use Rattle.verify.specs.Searches.{TellsReached}
 use Rattle.verify.specs.Twins.{TellsBirths, SharesAt, SharesBelow, IsLeast, IsOnly, HasTwins, lesser}
 use Rattle.verify.proofs.Leading.{object_below}
 
--- the least with one property or another, of which the second has at most one
+-- the least number with one of two properties, of which at most one number has the second
 least_join : (A B C : ℕ → Type 0) (o p : Option ℕ) → ((b : ℕ) → A b → C b) → ((b : ℕ) → B b → C b)
     → ((b : ℕ) → C b → A b ⊎ B b) → IsLeast A o → IsOnly B p → IsLeast C (lesser o p)
 least_join A B C None None ac bc cab l h = λ b c. elim (cab b c) [ inl x ↦ l b x | inr x ↦ h b x ]
@@ -52,7 +52,7 @@ least_next i noted n o p l h = least_join (SharesBelow i noted n) (SharesAt i no
     ])
     l h
 
--- the same property in other words
+-- the same property in another form
 pub least_same : (A B : ℕ → Type 0) (o : Option ℕ) → ((b : ℕ) → A b → B b) → ((b : ℕ) → B b → A b) → IsLeast A o
     → IsLeast B o
 least_same A B None ab ba l = λ b x. l b (ba b x)

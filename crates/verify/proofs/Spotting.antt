@@ -35,7 +35,7 @@ module _ (w n : ℕ) (ps : List (List Spot)) where
   pub spot_past : (a : ℕ) → n ≤ a → spot_at (spots_of w n ps) a ≡ Empty
   spot_past a l = get_or_past (spots_of w n ps) a Empty (omega (arith, l, spots_length))
 
-  -- what isn't empty is one of the addresses, on a page that has its offset
+  -- a spot that isn't empty is at one of the addresses, on a page that has its offset
   pub record IsThere (a : ℕ) : Type 0 where
     pub within : a < n
     pub page : a / w < length ps
@@ -67,7 +67,7 @@ module _ (w n : ℕ) (ps : List (List Spot)) (a : ℕ) (f : spot_at (spots_of w 
   abbrev after : List (List Spot)
   after = slice_set ps (a / w) (slice_set page (a % w) Reached)
 
-  -- what is known of another address, or of this one
+  -- the spot at another address, or at this one
   on_page : (i : ℕ) → i / w ≡ a / w → spot_on w after i ≡ spot_at (slice_set page (a % w) Reached) (i % w)
   on_page i e = ap (λ q. spot_at q (i % w)) (ap (λ k. get_or after k []) e
       ∙ get_or-set_same ps (a / w) (slice_set page (a % w) Reached) [] there.page)
@@ -111,7 +111,7 @@ module _ (w n : ℕ) (ps : List (List Spot)) (a : ℕ) (f : spot_at (spots_of w 
                 ∙ sym (get_or-set_other (spots_of w n ps) a i Reached Empty d ∙ spot_read w n ps i under)
           ]
 
-  -- the pages' lists stay short
+  -- the pages' lists stay within their length
   pub reach_keeps : AreSpots w n ps → AreSpots w n after
   reach_keeps k = record {
     sized = k.sized;
@@ -132,7 +132,7 @@ module _ (w n : ℕ) (ps : List (List Spot)) (a : ℕ) (f : spot_at (spots_of w 
     ];
   }
 
--- the same, by what was read and written on the way
+-- the same, in terms of what was read and written on the way
 pub reach_read : (w n v : ℕ) (ps : List (List Spot)) (xs : List Spot) (a : ℕ) (p q : List Spot)
     → spots_of w n ps ≡ xs → v ≡ w → spot_at xs a ≢ Empty → p ≡ get_or ps (a / v) p → q ≡ slice_set p (a % v) Reached
     → spots_of w n (slice_set ps (a / v) q) ≡ slice_set xs a Reached
@@ -153,7 +153,7 @@ module _ (w n : ℕ) (ps : List (List Spot)) (k : AreSpots w n ps) where
   abbrev all : List Spot
   all = spots_of w n ps
 
-  -- of an address of the page of another one, behind it
+  -- an address of the page of another one, after it
   behind : (a b : ℕ) → a ≤ b → b < a + (w - a % w)
       → spot_on w ps b ≡ spot_at (get_or ps (a / w) []) (a % w + (b - a))
   behind a b low high =
@@ -162,7 +162,7 @@ module _ (w n : ℕ) (ps : List (List Spot)) (k : AreSpots w n ps) where
       ap (spot_on w ps) e ∙ ap (λ q. spot_at (get_or ps q []) ((a + (b - a)) % w)) s.0
       ∙ ap (spot_at (get_or ps (a / w) [])) s.1
 
-  -- where a page has none behind an address, none is there up to the page's end
+  -- if a page has no object from an address on, there is none up to the page's end
   pub none_behind : (a b : ℕ) → IsNextFilled (get_or ps (a / w) []) (a % w) None → a ≤ b → b < a + (w - a % w)
       → spot_at all b ≡ Empty
   none_behind a b none low high = elim (cases_lt b n) [
@@ -170,7 +170,7 @@ module _ (w n : ℕ) (ps : List (List Spot)) (k : AreSpots w n ps) where
     | inl l ↦ spot_read w n ps b l ∙ behind a b low high ∙ none (a % w + (b - a)) (omega arith)
   ]
 
-  -- where it has one, none is there before it
+  -- if it has one, there is none before it
   pub none_before : (a o b : ℕ) → IsNextFilled (get_or ps (a / w) []) (a % w) (Some o) → a ≤ b → b < a + (o - a % w)
       → spot_at all b ≡ Empty
   none_before a o b next low high = elim (cases_lt b n) [
@@ -180,7 +180,7 @@ module _ (w n : ℕ) (ps : List (List Spot)) (k : AreSpots w n ps) where
         ∙ next.3 (a % w + (b - a)) (omega arith) (omega (arith, low, high))
   ]
 
-  -- and it is there
+  -- and this one exists
   pub next_there : (a o : ℕ) → IsNextFilled (get_or ps (a / w) []) (a % w) (Some o) → a + (o - a % w) < n
       → spot_at all (a + (o - a % w)) ≢ Empty
   next_there a o next l e =
@@ -189,7 +189,7 @@ module _ (w n : ℕ) (ps : List (List Spot)) (k : AreSpots w n ps) where
       ∙ behind a (a + (o - a % w)) (omega arith) (omega (arith, next.0, next.1, k.short (a / w)))
       ∙ ap (spot_at (get_or ps (a / w) [])) sum) ∙ e)
 
--- what a search finds that reads words v and pages qs, and gives a value of the list xs
+-- the result of a search that reads words v and pages qs, for the list xs
 module _ (w n v : ℕ) (ps qs : List (List Spot)) (xs : List Spot) (k : AreSpots w n ps) (view : spots_of w n ps ≡ xs)
     (same : v ≡ w) (read : qs ≡ ps) (from at : ℕ) (low : from ≤ at)
     (none : (b : ℕ) → from ≤ b → b < at → spot_at (spots_of w n ps) b ≡ Empty) where
@@ -249,7 +249,7 @@ module _ (w n v : ℕ) (ps qs : List (List Spot)) (xs : List Spot) (k : AreSpots
 abbrev pub unseen_below : List Spot → ℕ → ℕ
 unseen_below spots i = count_by is_unseen (take i spots)
 
--- one for what is unseen
+-- 1 for an unseen spot, else 0
 abbrev pub as_one : Spot → ℕ
 as_one s = cond (is_unseen s) 1 0
 
@@ -261,7 +261,7 @@ one_more spots i l = ap (count_by is_unseen) (take_more spots i Empty l)
     counted : (xs : List Spot) (x : Spot) → count_by is_unseen (xs ++ x ∷ []) ≡ count_by is_unseen xs + as_one x
     counted xs x = omega (arith, sum_by-append as_one xs (x ∷ []), sum_by-cons as_one x [])
 
--- what is empty isn't counted
+-- empty spots aren't counted
 none_more : (spots : List Spot) (i m : ℕ) → ((b : ℕ) → i ≤ b → b < i + m → spot_at spots b ≡ Empty)
     → unseen_below spots (i + m) ≡ unseen_below spots i
 none_more spots i zero e = let z : i + 0 ≡ i = omega arith in ap (unseen_below spots) z
@@ -277,7 +277,7 @@ none_more spots i (suc m) e =
           (take_all (i + m + 1) spots (omega (arith, l)) ∙ sym (take_all (i + m) spots l)) ∙ before
     ]
 
--- up to the next object and behind it
+-- up to the next object, and after it
 pub unseen_next : (spots : List Spot) (from a count : ℕ) → IsNextFilled spots from (Some a)
     → count ≡ unseen_below spots from → unseen_below spots (a + 1) ≡ count + as_one (spot_at spots a)
 unseen_next spots from a count next c =
@@ -286,7 +286,7 @@ unseen_next spots from a count next c =
     let same : unseen_below spots (from + (a - from)) ≡ unseen_below spots a = ap (unseen_below spots) e in
     omega (arith, one_more spots a next.1, before, same, c)
 
--- and where there is none
+-- if there is none
 pub unseen_all : (spots : List Spot) (from count : ℕ) → IsNextFilled spots from None → count ≡ unseen_below spots from
     → count ≡ count_by is_unseen spots
 unseen_all spots from count none c =

@@ -1,4 +1,4 @@
--- What stands at each address before a walk, page by page.
+-- The spots before a walk, page by page.
 use Rattle.std.proofs.Common.{◌≡◌, eqb, leb, inl, inr, ℕ, suc, ◌+◌, ◌-◌, ◌*◌, ◌/◌, ◌%◌, ◌<◌, ◌≤◌, Bool, true, false}
 use Rattle.std.proofs.Common.{cond}
 use Rattle.std.proofs.Common.{ltb, List, [], ◌∷◌, ◌++◌, length, get_or, Option, Some, None, refl, ◌∙◌, ap, arith}
@@ -18,7 +18,7 @@ use Rattle.verify.specs.Spots.{spot_on}
 use Rattle.verify.specs.Walks.{spot_at, first_spot}
 use Rattle.verify.proofs.Spotting.{same_page}
 
--- where no start is told, no object is
+-- if there is no start bit, there is no object
 pub no_start : (i : ImageData) (a : ℕ) → starts_on (page_at i a) (a % i.words) ≡ false → object_at i a ≡ None
 unfolding object_at
 no_start i a e = ap (λ (b : Bool). cond (ltb a addresses.LIMIT) (cond b (object_in i a) None) None) e
@@ -28,7 +28,7 @@ no_start i a e = ap (λ (b : Bool). cond (ltb a addresses.LIMIT) (cond b (object
     nothing true = refl
     nothing false = refl
 
--- so none is on a page that isn't there
+-- so there is none on a page that doesn't exist
 pub no_page : (i : ImageData) (a : ℕ) → page_at i a ≡ None → object_at i a ≡ None
 no_page i a e = no_start i a (ap (λ p. starts_on p (a % i.words)) e)
 
@@ -70,7 +70,7 @@ page_stays i base o e l =
 
 -- more pages
 
--- the list of pages covers the addresses below one, which is where the next page begins
+-- the list of pages covers the addresses below a bound, where the next page begins
 pub record AreCovered (i : ImageData) (ps : List (List Spot)) (base : ℕ) : Type 0 where
   pub many : base ≡ length ps * i.words
   pub short : (k : ℕ) → length (get_or ps k []) ≤ i.words
@@ -127,14 +127,14 @@ covered_more i ps base q c few told = record {
     times : (m n : ℕ) → n ≡ suc m → n * i.words ≡ m * i.words + i.words
     times m n e = ap (λ k. k * i.words) e ∙ suc-mul m i.words
 
--- the next page begins at a page's head
+-- the next page begins at the start of a page
 pub covered_head : (i : ImageData) (ps : List (List Spot)) (base : ℕ) → 0 < i.words → AreCovered i ps base
     → base % i.words ≡ 0
 covered_head i ps base w c =
     let e : base ≡ length ps * i.words + 0 = omega (arith, c.many) in
     ap (λ n. n % i.words) e ∙ mod-mul-add (length ps) i.words 0 w
 
--- what is known of an address that is covered, by what was read
+-- the spot at an address that is covered, by what was read
 pub covered_on : (i : ImageData) (ps : List (List Spot)) (base w a : ℕ) → AreCovered i ps base → w ≡ i.words → a < base
     → spot_on w ps a ≡ first_spot (object_at i a)
 covered_on i ps base w a c e l = ap (λ u. spot_on u ps a) e ∙ c.each a l

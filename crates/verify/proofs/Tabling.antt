@@ -1,4 +1,4 @@
--- The table of a side array, from its end.
+-- The table of a forwarding table by offset, filled from its end.
 use Rattle.std.proofs.Common.{◌≡◌, ◌<◌, ℕ, ◌+◌, ◌-◌, suc, Bool, true, false, cond, List, ◌∷◌, length, drop}
 use Rattle.std.proofs.Common.{get_or, eqb, Option, Some, None, refl, sym, ap, ◌∙◌, arith, drop-cons}
 use Rattle.std.specs.List.{find}
@@ -7,7 +7,7 @@ use Rattle.model.specs.declared.records.Forwarding.{Forwarding}
 use Rattle.verify.specs.Images.{copy_in, copy_of}
 use Rattle.verify.specs.Copies.{ArePlaces}
 
--- the first entry counts, where it is of the offset
+-- the first entry counts if it has the offset
 copy_first : (f : Forwarding) (fs : List Forwarding) (o : ℕ)
     → copy_in (f ∷ fs) o ≡ cond (eqb f.offset o) (copy_of f) (copy_in fs o)
 copy_first f fs o = by_test (eqb f.offset o)
@@ -27,7 +27,7 @@ drop_more side k f l e =
     here : (i j : ℕ) → i < length side → j ≡ suc i → f ≡ get_or side i f → drop i side ≡ f ∷ drop j side
     here i j b q g = drop-cons side i f b ∙ ap (λ x. x ∷ drop (suc i) side) (sym g) ∙ ap (λ x. f ∷ drop x side) (sym q)
 
--- places that tell what a part of a side array tells are one for each offset, and they agree
+-- a table of a part of a forwarding table has a place for each offset, and agrees with it
 pub record IsTable (side : List Forwarding) (words : ℕ) (table : List (Option ℕ)) : Type 0 where
   pub sized : length table ≡ words
   pub tells : ArePlaces side words table

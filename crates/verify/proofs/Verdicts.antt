@@ -1,4 +1,4 @@
--- Verdicts from what the parts found, and that there is only one.
+-- Verdicts from the results of the parts, and that there is only one.
 use Rattle.std.proofs.Common.{cond, eqb, ◌≡◌, ◌<◌, ◌≤◌, ◌⊎◌, inl, inr, ℕ, Option, Some, None, Result, Ok, Err}
 use Rattle.std.proofs.Common.{List, refl, sym, ap, ◌∙◌, arith}
 use Rattle.std.proofs.lemmas.Bool.{cases_order}
@@ -16,7 +16,7 @@ use Rattle.verify.specs.Faults.{HasFault, NoneBefore, VerdictIs, Rank, rank, at,
 use Rattle.verify.specs.Searches.{GoodRootsBefore, GoodBefore, FoundField, FoundReached}
 use Rattle.verify.specs.Twins.{IsLeast, HasTwins}
 
--- what is before another is of no later kind
+-- a rank before another is of no later kind
 kind_before : (x y : Rank) → IsBefore x y → x.kind ≤ y.kind
 kind_before x y h = elim h [
   | inl a ↦ omega arith
@@ -29,7 +29,7 @@ root_kind (roots.Register t n) = omega arith
 root_kind (roots.Pending t) = omega arith
 root_kind (roots.Global g) = omega arith
 
--- twins of the least birth, and nothing else wrong
+-- the lowest birth with twins, and nothing else wrong
 pub twins_verdict : (i : ImageData) (m : ℕ) → HasFrames i → GoodRootsBefore i (at 4 0 0) → GoodBefore i (at 5 0 0)
     → IsLeast (HasTwins i) (Some m) → VerdictIs i (verdicts.Faulty (faults.Twins m))
 twins_verdict i m f p q h = ((h.0.first, h.0.second, h.0.twins), none)
@@ -57,13 +57,13 @@ sound_verdict i f p q h = record {
   alone = λ a c b t. h b (record { first = a; second = c; twins = t });
 }
 
--- a walk that found its spots found all roots good
+-- if a walk found its spots, all roots are good
 pub found_roots : (i : ImageData) (r : Result (List Spot) Root) (spots : List Spot) → FoundReached i r
     → r ≡ Ok spots → GoodRootsBefore i (at 4 0 0)
 found_roots i (Ok x) spots h e = h.1
 found_roots i (Err x) spots h e = absurd (cc e)
 
--- a look that found no fault found all fields good
+-- if the fields have no fault, all are good
 pub found_fields : (i : ImageData) (o : Option Fault) → FoundField i o → o ≡ None → GoodBefore i (at 5 0 0)
 found_fields i None h e = h
 found_fields i (Some f) h e = absurd (none-some f (sym e))

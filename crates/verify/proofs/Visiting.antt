@@ -19,7 +19,7 @@ spot_kept spots a b l h = elim (cases_eq a b) [
   | inr n ↦ get_or-set_other spots b a Reached Empty n ∙ h
 ]
 
--- a spot that is reached was so, or is the one that was visited
+-- a spot that is reached was reached before, or is the one that was visited
 spot_cases : (spots : List Spot) (a b : ℕ) → spot_at (slice_set spots b Reached) a ≡ Reached
     → (spot_at spots a ≡ Reached) ⊎ (a ≡ b)
 spot_cases spots a b h = elim (cases_eq a b) [
@@ -38,43 +38,43 @@ spot_filled spots a b l h = λ e. elim (cases_eq a b) [
     apart : Reached ≡ Empty → ⊥
     apart e = absurd (cc e)
 
--- the walk has come to what it visits
+-- a visited address is met
 pub visited_met : (w : WalkData) (b : ℕ) → b < length w.spots → IsMet (with_visit w b) b
 unfolding with_visit
 visited_met w b l = get_or-set_same w.spots b Reached Empty l
 
--- and to all that it had come to
+-- so is each address that was met before
 pub visited_keeps : (w : WalkData) (b : ℕ) → b < length w.spots → Keeps w (with_visit w b)
 unfolding with_visit
 visited_keeps w b l = λ a h. spot_kept w.spots a b l h
 
--- and to nothing else
+-- no other address is
 pub visited_cases : (w : WalkData) (b a : ℕ) → IsMet (with_visit w b) a → IsMet w a ⊎ (a ≡ b)
 unfolding with_visit
 visited_cases w b a h = spot_cases w.spots a b h
 
--- where objects start stays known
+-- a spot that isn't empty before a visit isn't after it
 pub visited_filled : (w : WalkData) (b a : ℕ) → b < length w.spots → spot_at w.spots a ≢ Empty
     → spot_at (with_visit w b).spots a ≢ Empty
 unfolding with_visit
 visited_filled w b a l h = spot_filled w.spots a b l h
 
--- what waits behind a visit waited, or was visited
+-- an address that waits after a visit waited before, or was visited
 waits_cases : (t : Bool) (ss : List ℕ) (a b : ℕ) → Contains (cond t (ss ++ b ∷ []) ss) a → Contains ss a ⊎ (a ≡ b)
 waits_cases true ss a b h = elim (Contains-push_cases ss b a h) [ inl k ↦ inl k | inr e ↦ inr (sym e) ]
 waits_cases false ss a b h = inl h
 
--- what waited still waits
+-- an address that waited still waits
 waits_kept : (t : Bool) (ss : List ℕ) (a b : ℕ) → Contains ss a → Contains (cond t (ss ++ b ∷ []) ss) a
 waits_kept true ss a b h = Contains-append_left ss (b ∷ []) a h
 waits_kept false ss a b h = h
 
--- so it is by a walk
+-- so an address that waits after a visit waited before, or was visited
 pub visited_waiting : (w : WalkData) (b a : ℕ) → Contains (with_visit w b).waiting a → Contains w.waiting a ⊎ (a ≡ b)
 unfolding with_visit
 visited_waiting w b a h = waits_cases (is_unseen (spot_at w.spots b)) w.waiting a b h
 
--- and this too
+-- and an address that waited still waits after a visit
 pub visited_waits : (w : WalkData) (b a : ℕ) → Contains w.waiting a → Contains (with_visit w b).waiting a
 unfolding with_visit
 visited_waits w b a h = waits_kept (is_unseen (spot_at w.spots b)) w.waiting a b h
@@ -90,12 +90,12 @@ visited_new w b h = by_spot (spot_at w.spots b) refl
     by_spot Unseen e = inr (rw e (Contains-push w.waiting b))
     by_spot Reached e = inl e
 
--- there are as many spots as before
+-- the number of spots stays
 pub visited_length : (w : WalkData) (b : ℕ) → length (with_visit w b).spots ≡ length w.spots
 unfolding with_visit
 visited_length w b = length-set w.spots b Reached
 
--- a visit moves one from those not seen to those waiting
+-- a visit moves an unseen object to the waiting ones
 pub visited_left : (w : WalkData) (b : ℕ) → b < length w.spots → looks_left (with_visit w b) ≡ looks_left w
 unfolding with_visit
 visited_left w b l = moved (is_unseen (spot_at w.spots b)) refl

@@ -1,4 +1,4 @@
--- What a walk keeps, from visit to visit.
+-- The invariant of a walk, from visit to visit.
 use Rattle.std.proofs.Common.{◌≡◌, ◌≢◌, ◌<◌, ◌≤◌, ◌⊎◌, inl, inr, ℕ, ◌+◌, List, [], ◌∷◌, ◌++◌, length, Option, Some}
 use Rattle.std.proofs.Common.{None, sym, ap, ◌∙◌, arith}
 use Rattle.std.specs.List.{Contains}
@@ -92,7 +92,7 @@ walk_done i b n w h t = record {
   ];
 }
 
--- the same, by what is known of the fields
+-- the same, in terms of the fields
 pub walk_past : (i j : ImageData) (b n m : ℕ) (w : WalkData) → j ≡ i → IsWalkAt i b n w → m ≤ n
     → ((k : ℕ) → m ≤ k → field j b k ≡ None) → IsWalk i w
 walk_past i j b n m w e h l t =
@@ -122,12 +122,12 @@ walk_begun i b v w h same split = record {
     forth : (a : ℕ) → IsMet v a → IsMet w a
     forth a m = ap (λ ms. spot_at ms a) same ∙ m
 
--- then there is one look less to come
+-- then one less object is left to be scanned
 pub begun_left : (b : ℕ) (v w : WalkData) → w.spots ≡ v.spots → v.waiting ≡ w.waiting ++ b ∷ []
     → looks_left w + 1 ≡ looks_left v
 begun_left b v w same split = rw (same, split) (grind (arith, common_steps))
 
--- what a field leads to has a bit
+-- the address to which a field leads has a start bit
 pub target_bit : (i : ImageData) (b n c : ℕ) (w : WalkData) → 0 < i.words → IsWalkAt i b n w → target i b n ≡ Some c
     → c < length w.spots
 target_bit i b n c w p h t = rw h.sized (target_below i b n c p t)
@@ -160,7 +160,7 @@ walk_met i c x w h r y l = record {
     kept : (a d : ℕ) → Contains w.waiting a ⊎ IsMet w d → Contains (with_visit w c).waiting a ⊎ IsMet (with_visit w c) d
     kept a d x = elim x [ inl z ↦ inl (visited_waits w c a z) | inr z ↦ inr (visited_keeps w c l d z) ]
 
--- a walk that has come nowhere
+-- a walk that has met nothing
 pub walk_new : (i : ImageData) (spots : List Spot) → 0 < i.words → length spots ≡ space i
     → ((a : ℕ) → a < space i → spot_at spots a ≡ first_spot (object_at i a))
     → IsWalk i (record { spots = spots; waiting = [] })

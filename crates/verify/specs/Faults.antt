@@ -35,19 +35,19 @@ rank (faults.Root (roots.Global g)) = at 3 g 0
 rank (faults.Field a k) = at 4 a k
 rank (faults.Twins b) = at 5 b 0
 
--- where loads begin in the order, behind registers
+-- the rank at which loads begin, after registers
 abbrev pub first_load : Rank
 first_load = at 2 0 0
 
--- where globals begin
+-- the rank at which globals begin
 abbrev pub first_global : Rank
 first_global = at 3 0 0
 
--- where fields begin, behind all roots
+-- the rank at which fields begin, after all roots
 abbrev pub first_field : Rank
 first_field = at 4 0 0
 
--- where twins begin
+-- the rank at which twins begin
 abbrev pub first_twins : Rank
 first_twins = at 5 0 0
 

@@ -1,4 +1,4 @@
--- The image of a heap, its memory and its roots as plain data, and what the words in it lead to.
+-- The image of a heap, its memory and its roots as plain data, and the objects to which values lead.
 use Rattle.std.specs.Prelude.{ℕ, ◌+◌, ◌-◌, ◌/◌, ◌%◌, ◌==◌, Bool, false, List, Option, Some, None, is_some}
 use Rattle.std.specs.Prelude.{option_and_then, nat_le, nat_lt, slice_get, find, get_or, unwrap_or}
 use Rattle.std.specs.Prelude.{if◌then◌else◌}
@@ -11,19 +11,19 @@ use Rattle.model.specs.declared.records.PageState.{PageState}
 use Rattle.model.specs.Stores.{is_protected}
 use Rattle.verify.specs.declared.objects.Object.{Object}
 
--- what is found goes on; nothing, once nothing is found
+-- a value is passed on; none stays none
 infixl 10 ◌>>=◌
 abbrev pub ◌>>=◌ : {A B : Type 0} → Option A → (A → Option B) → Option B
 o >>= f = option_and_then f o
 
--- a page: how it is used, its frame, where objects start, and where they go
+-- a page: its state, its frame, its start bitmap, and its forwarding table
 pub record PageData : Type 0 where
   pub state : PageState
   pub frame : Option ℕ
   pub starts : List Bool
   pub side : List Forwarding
 
--- an image: page n is the element n - 1 of pages, and a root is a number that may be no word
+-- an image: page n is the element n - 1 of pages, and a root is a number that may be no reference
 pub record ImageData : Type 0 where
   pub words : ℕ
   pub frame_count : ℕ
@@ -39,29 +39,30 @@ pub record ImageData : Type 0 where
 unfoldable pub page_at : ImageData → ℕ → Option PageData
 page_at i a = if a / i.words == 0 then None else slice_get i.pages (a / i.words - 1)
 
--- where an entry says that its object was copied to
+-- the address to which an entry's object was copied, if it was
 abbrev pub copy_of : Forwarding → Option ℕ
 copy_of f = if f.copied then Some f.to else None
 
--- where a side array says that the object of an offset was copied to: its first entry of the offset counts
+-- the address to which the object of an offset was copied, by a forwarding table: its first entry of the offset
+-- counts
 abbrev pub copy_in : List Forwarding → ℕ → Option ℕ
 copy_in side offset = option_and_then copy_of (find (λ f. f.offset == offset) side)
 
--- the same, of a page that may not be there
+-- the same, for a page that may not exist
 abbrev pub copy_on : Option PageData → ℕ → Option ℕ
 copy_on None offset = None
 copy_on (Some p) offset = copy_in p.side offset
 
--- a side array has the address as copied
+-- a forwarding table has the address as copied
 unfoldable pub is_copied : ImageData → ℕ → Bool
 is_copied i a = is_some (copy_on (page_at i a) (a % i.words))
 
--- a page that may not be there, if it is protected
+-- a page that may not exist, if it is protected
 abbrev pub if_protected : Option PageData → Option PageData
 if_protected None = None
 if_protected (Some p) = if is_protected p.state then Some p else None
 
--- where an address leads: to the copy, if its page is protected and its object copied, else to itself
+-- an address after forwarding: the copy's, if its page is protected and its object copied, else itself
 unfoldable pub resolve : ImageData → ℕ → ℕ
 resolve i a = unwrap_or (copy_on (if_protected (page_at i a)) (a % i.words)) a
 
@@ -73,12 +74,12 @@ word_at i a = do
   words ← slice_get i.frames frame
   slice_get words (a % i.words)
 
--- whether a page that may not be there says that an object starts at an offset
+-- a page, if it exists, has a start bit at an offset
 abbrev pub starts_on : Option PageData → ℕ → Bool
 starts_on None offset = false
 starts_on (Some p) offset = get_or p.starts offset false
 
--- the object at an address, if its layout is known and its page has room for its size
+-- the object at an address, if its layout is known and its page has space for its size
 unfoldable pub object_in : ImageData → ℕ → Option Object
 object_in i a = do
   bits ← word_at i a
@@ -87,7 +88,7 @@ object_in i a = do
       then Some (record { birth = birth_of bits; refs = layout.refs })
       else None
 
--- the object that starts at an address: there is a bit, and an object; and a word can have the address
+-- the object that starts at an address, if a reference can have the address: there is a start bit, and an object
 unfoldable pub object_at : ImageData → ℕ → Option Object
 object_at i a =
     if nat_lt a addresses.LIMIT then (if starts_on (page_at i a) (a % i.words) then object_in i a else None) else None
@@ -97,18 +98,18 @@ abbrev pub start_found : ℕ → Option Object → Option (Option ℕ)
 start_found a None = None
 start_found a (Some o) = Some (Some a)
 
--- what a word leads to
+-- the object to which a reference leads
 abbrev pub word_leads : ImageData → Option (Option (ℕ × Bool)) → Option (Option ℕ)
 word_leads i None = None
 word_leads i (Some None) = Some None
 word_leads i (Some (Some w)) = start_found (resolve i w.0) (object_at i (resolve i w.0))
 
--- what a value leads to: nothing, if it is null; an object's address, if it is a word that resolves to one; else there
--- is no answer, as the value is not good
+-- the object to which a value leads: none, if it is null; an object's address, if it is a reference that resolves to
+-- one; else there is no result, as the value isn't good
 unfoldable pub leads : ImageData → ℕ → Option (Option ℕ)
 leads i value = word_leads i (read_word value)
 
--- the value of reference k of the object at an address, if it has so many
+-- the value of reference k of the object at an address, if it exists
 unfoldable pub field : ImageData → ℕ → ℕ → Option ℕ
 field i a k = do
   object ← object_at i a

@@ -8,7 +8,7 @@ use Rattle.model.specs.Bits.{of_page}
 use Rattle.model.specs.States.{HeapState, ThreadState}
 use Rattle.verify.specs.Images.{ImageData, PageData}
 
--- page n: its record, its start bits and its side array
+-- page n: its record, its start bitmap and its forwarding table
 abbrev pub page_data : HeapState → ℕ → PageData
 page_data h n = record {
   state = state_at h.store n;
@@ -21,7 +21,7 @@ page_data h n = record {
 abbrev pub pages_of : HeapState → List PageData
 pages_of h = map (page_data h) (range_with_len 1 (length h.store.pages))
 
--- a frame is there, and has no owner
+-- a frame exists, and has no owner
 abbrev pub is_free : Option (Option ℕ) → Bool
 is_free (Some None) = true
 is_free _ = false
@@ -34,7 +34,7 @@ free_of s = filter (λ f. is_free (slice_get s.owners f)) (range_with_len 0 (len
 abbrev pub registers_of : ThreadState → List ℕ
 registers_of t = map bits_of t.registers
 
--- the bits of the word so far of a thread's load, if it has one that isn't finished
+-- the bits of the reference in a thread's open barrier, if it has one
 abbrev pub load_of : ThreadState → Option ℕ
 load_of t = option_map (λ b. bits_of b.now) t.barrier
 

@@ -4,7 +4,7 @@ use Rattle.std.proofs.Common.{arith}
 use Rattle.std.proofs.lemmas.Bool.Decides.{nat_tests}
 use Rattle.refword.specs.Words.{IsAddress}
 
--- the number is 0 where the address is missing
+-- the number is 0 if the address is missing
 abbrev pub place_of : ℕ → Option ℕ
 place_of n = if n == 0 then None else Some n
 

@@ -1,4 +1,4 @@
--- When the image of a heap is sound.
+-- The conditions under which the image of a heap is sound.
 use Rattle.std.specs.Prelude.{◌≡◌, ◌≢◌, ◌⊎◌, ◌≤◌, ℕ, ◌+◌, ◌==◌, Bool, true, false, List, length, Option, Some}
 use Rattle.std.specs.Prelude.{None, is_some, option_map, slice_get, count_by, nat_lt, ◌||◌}
 use Rattle.std.specs.Option.{option_flatten}
@@ -9,7 +9,7 @@ use Rattle.verify.specs.Images.{ImageData, PageData, ◌>>=◌, is_copied, objec
 use Rattle.verify.specs.declared.verdict.Root.{Root}
 use Rattle.verify.specs.declared.verdict.Root.TheVariants as roots
 
--- a value is good: null, or a word that resolves to an object's start in a page with a frame
+-- a value is good: null, or a reference that resolves to an object's start in a page with a frame
 abbrev pub IsGood : ImageData → ℕ → Type 0
 IsGood i value = (found : Option ℕ) × (leads i value ≡ Some found)
 
@@ -20,11 +20,11 @@ abbrev pub is_frame : ℕ → Option ℕ → Bool
 is_frame f None = false
 is_frame f (Some g) = g == f
 
--- how many pages have a frame
+-- how many pages have frame f
 abbrev pub owners_in : List PageData → ℕ → ℕ
 owners_in pages f = count_by (λ p. is_frame f p.frame) pages
 
--- how often a frame stands in a list
+-- how often a frame is in a list
 abbrev pub times_in : List ℕ → ℕ → ℕ
 times_in frames f = count_by (λ g. g == f) frames
 
@@ -32,40 +32,39 @@ times_in frames f = count_by (λ g. g == f) frames
 abbrev pub uses_of : ImageData → ℕ → ℕ
 uses_of i f = owners_in i.pages f + times_in i.free f
 
--- one for what is, and zero for what isn't
+-- 1 for true, and 0 for false
 abbrev pub as_number : Bool → ℕ
 as_number true = 1
 as_number false = 0
 
--- what is there has so many words
+-- a list, if there is one, has this number of words
 abbrev pub is_sized : ℕ → Option (List ℕ) → Bool
 is_sized words None = true
 is_sized words (Some ws) = length ws == words
 
--- frame f, if it is there, has so many words
+-- frame f, if it exists, has this number of words
 abbrev pub has_words : List (List ℕ) → ℕ → ℕ → Bool
 has_words frames words f = is_sized words (slice_get frames f)
 
--- frame f is as a free one may be: it has no words, or those of a page
+-- frame f is a possible free one: it has no words, or those of a page
 abbrev pub may_be_free : List (List ℕ) → ℕ → ℕ → Bool
 may_be_free frames words f = has_words frames 0 f || has_words frames words f
 
--- the frame of a page, if it has one, has so many words
+-- the frame of a page, if it has one, has this number of words
 abbrev pub is_filled : List (List ℕ) → ℕ → Option ℕ → Bool
 is_filled frames words None = true
 is_filled frames words (Some f) = has_words frames words f
 
--- a page has a frame exactly where its state says so
+-- a page has a frame exactly if its state says so
 abbrev pub HasItsFrame : PageData → Type 0
 HasItsFrame p = is_some p.frame ≡ has_memory p.state
 
--- each frame of the configured number is owned by one page or stands once among the free ones, and no other frame is or
--- does
+-- each frame of the configured number is owned by one page, or is once in the list of free ones; no other frame is
 abbrev pub IsOnce : ImageData → Type 0
 IsOnce i = (f : ℕ) → uses_of i f ≡ as_number (nat_lt f i.frame_count)
 
--- pages are of a size within the limits, the frame of each page has the words of a page, a free one has them or none, as
--- many frames as configured are there, and each of these has one owner or is free, once
+-- the page size is within the limits, the frame of each page has the words of a page, a free one has them or none,
+-- the configured number of frames exists, and each of these has one owner or is free, once
 pub record HasFrames (i : ImageData) : Type 0 where
   pub size : is_page_size i.words ≡ true
   pub words : Each i.pages (λ p. is_filled i.frames i.words p.frame ≡ true)
@@ -76,8 +75,8 @@ pub record HasFrames (i : ImageData) : Type 0 where
 
 -- roots
 
--- the value of a root, if there is that root: a register by thread and number, the word so far of a thread's load, or a
--- global by number
+-- the value of a root, if there is such a root: a register by thread and number, the current reference of a thread's
+-- load, or a global by number
 abbrev pub root_value : ImageData → Root → Option ℕ
 root_value i (roots.Register t r) = slice_get i.registers t >>= (λ registers. slice_get registers r)
 root_value i (roots.Pending t) = option_flatten (slice_get i.loads t)
@@ -85,7 +84,7 @@ root_value i (roots.Global g) = slice_get i.globals g
 
 -- paths
 
--- an address ends a path: what a root leads to, or what a field of the object at such an address leads to
+-- an address at the end of a path: a root leads to it, or a field of the object at such an address
 pub data IsReached (i : ImageData) : ℕ → Type 0 where
   FromRoot : (a value : ℕ) (r : Root) → root_value i r ≡ Some value → leads i value ≡ Some (Some a) → IsReached i a
   FromField : (c a k value : ℕ) → IsReached i a → field i a k ≡ Some value → leads i value ≡ Some (Some c)

@@ -1,4 +1,4 @@
-//! Births of objects, and which two objects share.
+//! Births of objects, and two objects that have the same.
 
 ghost use Rattle.std.specs.Prelude.{◌≡◌, ◌<◌, ◌≤◌, ◌+◌, ℕ, Some, None, IfOk, MatchOption, length, nat_eq, Option};
 ghost use Rattle.std.specs.Prelude.{if◌then◌else◌, ◌==◌};
@@ -19,7 +19,7 @@ struct Births {
 }
 
 impl Births {
-    /// Nothing is noted of any birth.
+    /// Returns a table in which no address is noted.
     fn new(alloc: Global) -> Births
         ensures { (b : ℕ) → hash.get nat_eq result.addresses b ≡ None }
     {
@@ -28,7 +28,7 @@ impl Births {
         }
     }
 
-    /// Notes an address of a birth, in place of what was noted.
+    /// Notes an address for a birth, in place of an earlier one. Fails only if out of memory.
     fn note(&mut self, birth: u64, address: u64) -> Result<(), AllocError>
         ensures { IfOk result (λ _. (b : ℕ) → hash.get nat_eq self.new.addresses b
             ≡ (if b == birth then Some address else hash.get nat_eq self.old.addresses b)) }
@@ -37,7 +37,7 @@ impl Births {
         Ok(())
     }
 
-    /// Notes an address of its object's birth, if an object is reached there.
+    /// Notes an address for its object's birth, if a reached object is there.
     fn note_reached(&mut self, chart: &Chart, spots: &Spots, address: u64) -> Result<(), AllocError>
         requires sized { 0 < chart.now.words }
         requires spots { TellsReached chart.now spots.now }
@@ -52,15 +52,15 @@ impl Births {
         Ok(())
     }
 
-    /// The address that is noted of a birth.
+    /// Returns the address that is noted for a birth.
     fn get(&self, birth: u64) -> Option<u64>
         ensures { result ≡ hash.get nat_eq self.now.addresses birth }
     {
         self.addresses.get(&birth).copied()
     }
 
-    /// The birth of the object at an address that is reached or wasn't copied, where another
-    /// address is noted of it.
+    /// Returns the birth of the object at an address that is reached or wasn't copied, if another address is noted
+    /// for it.
     fn shared_at(&self, chart: &Chart, spots: &Spots, address: u64) -> Option<u64>
         requires sized { 0 < chart.now.words }
         requires spots { TellsReached chart.now spots.now }
@@ -76,7 +76,7 @@ impl Births {
         }
     }
 
-    /// The least birth that is shared.
+    /// Returns the lowest birth that is shared.
     fn least_shared(&self, chart: &Chart, spots: &Spots) -> Option<u64>
         requires sized { 0 < chart.now.words }
         requires spots { TellsReached chart.now spots.now }
@@ -92,7 +92,7 @@ impl Births {
     }
 }
 
-/// The lesser of two numbers that may be missing.
+/// Returns the lesser of two numbers that may be missing.
 fn lesser(one: Option<u64>, other: Option<u64>) -> Option<u64>
     ensures { result ≡ lesser one other }
 {
@@ -103,7 +103,7 @@ fn lesser(one: Option<u64>, other: Option<u64>) -> Option<u64>
     }
 }
 
-/// An address for each birth of a reached object.
+/// Returns a table with an address for each birth of a reached object. Fails only if out of memory.
 fn births_of(alloc: Global, chart: &Chart, spots: &Spots) -> Result<Births, AllocError>
     requires sized { 0 < chart.now.words }
     requires spots { TellsReached chart.now spots.now }
@@ -118,7 +118,8 @@ fn births_of(alloc: Global, chart: &Chart, spots: &Spots) -> Result<Births, Allo
     Ok(births)
 }
 
-/// The least birth that two objects have, of which one is reached, and the other too or wasn't copied.
+/// Returns the lowest birth that two objects have, of which one is reached, and the other is reached too or wasn't
+/// copied. Fails only if out of memory.
 pub(crate) fn least_twins(
     alloc: Global,
     chart: &Chart,

@@ -1,4 +1,4 @@
-//! An image beside tables of its side arrays, and where values lead in it.
+//! An image together with tables of its forwarding tables, and the objects to which its values lead.
 
 ghost use Rattle.std.specs.Prelude.{◌≡◌, ◌<◌, ◌≤◌, ◌%◌, ℕ, IfOk, IfSome, MatchBool, Some, None, is_some};
 ghost use Rattle.std.specs.Prelude.{slice_get};
@@ -15,7 +15,7 @@ use refword::{Addr, Word};
 use std::alloc::{AllocError, Global};
 use std::marker::Model;
 
-/// An image, and a table for the side array of each of its pages. A contract sees the image.
+/// An image, and a table by offset for the forwarding table of each of its pages. A contract sees the image.
 #[derive(Drop)]
 pub(crate) struct Chart<'a> {
     image: &'a Image,
@@ -34,7 +34,7 @@ impl<'a> Model for Chart<'a> {
 }
 
 impl<'a> Chart<'a> {
-    /// The chart of an image. Fails only by memory.
+    /// Returns the chart of an image. Fails only if out of memory.
     pub(crate) fn new(alloc: Global, image: &'a Image) -> Result<Chart<'a>, AllocError>
         ensures { IfOk result (λ c. c ≡ image.now) }
     {
@@ -45,14 +45,14 @@ impl<'a> Chart<'a> {
         Ok(Chart { image, tables })
     }
 
-    /// Its image.
+    /// Returns its image.
     pub(crate) fn image(&self) -> &Image
         ensures { result.now ≡ self.now }
     {
         self.image
     }
 
-    /// Where the side array of its page says that the object of an address was copied to.
+    /// Returns the address to which the object of an address was copied, by its page's forwarding table.
     #[tactic(auto, unfolding(crate::specs::Images::page_at))]
     fn copy_at(&self, address: u64) -> Option<Addr>
         requires { 0 < self.now.words }
@@ -70,7 +70,7 @@ impl<'a> Chart<'a> {
         table.get(&page.side, image.words, address % words)
     }
 
-    /// Whether the page of an address is protected.
+    /// Returns whether the page of an address is protected.
     fn is_protected(&self, address: u64) -> bool
         requires { 0 < self.now.words }
         ensures { result ≡ is_some (if_protected (page_at self.now address)) }
@@ -82,7 +82,7 @@ impl<'a> Chart<'a> {
         }
     }
 
-    /// The address that an address is resolved to.
+    /// Returns an address after forwarding.
     #[tactic(auto, unfolding(crate::specs::Images::resolve))]
     fn resolve(&self, address: u64) -> u64
         requires { 0 < self.now.words }
@@ -97,7 +97,7 @@ impl<'a> Chart<'a> {
         }
     }
 
-    /// Whether a side array has an address as copied.
+    /// Returns whether a forwarding table has an address as copied.
     #[tactic(auto, unfolding(crate::specs::Images::is_copied))]
     pub(crate) fn is_copied(&self, address: u64) -> bool
         requires { 0 < self.now.words }
@@ -109,7 +109,7 @@ impl<'a> Chart<'a> {
         }
     }
 
-    /// What a value leads to: nothing, or an object's address; `None` where the value isn't good.
+    /// Returns the object to which a value leads: none, or its address. Returns `None` if the value isn't good.
     #[tactic(auto, unfolding(crate::specs::Images::leads))]
     pub(crate) fn leads(&self, value: u64) -> Option<Option<u64>>
         requires { 0 < self.now.words }
@@ -127,7 +127,7 @@ impl<'a> Chart<'a> {
         }
     }
 
-    /// The address that a field leads to.
+    /// Returns the address to which a field leads.
     #[tactic(auto, unfolding(crate::specs::Walks::target))]
     pub(crate) fn target(&self, address: u64, index: u32) -> Option<u64>
         requires { 0 < self.now.words }
@@ -137,7 +137,7 @@ impl<'a> Chart<'a> {
         self.leads(value)?
     }
 
-    /// Whether a field's value is good, if there is that field.
+    /// Returns whether a field's value is good; true if there is no such field.
     pub(crate) fn is_good_field(&self, address: u64, index: u32) -> bool
         requires { 0 < self.now.words }
         ensures { MatchBool result ((value : ℕ) → field self.now address index ≡ Some value → IsGood self.now value)
@@ -154,7 +154,7 @@ impl<'a> Chart<'a> {
 }
 
 impl PageImage {
-    /// Whether the page is protected: its objects are, or were, copied out.
+    /// Returns whether the page is protected.
     fn is_protected(&self) -> bool
         ensures { result ≡ is_protected self.now.state }
     {
@@ -162,14 +162,14 @@ impl PageImage {
     }
 }
 
-/// The table of an index, if there is one.
+/// Returns the table of an index, if there is one.
 fn table_of(tables: &[Table], index: usize) -> Option<&Table>
     ensures { option_copied result ≡ slice_get tables.now index }
 {
     tables.get(index)
 }
 
-/// The page of an index, if there is one.
+/// Returns the page of an index, if there is one.
 fn page_of(pages: &[PageImage], index: usize) -> Option<&PageImage>
     ensures { option_copied result ≡ slice_get pages.now index }
 {

@@ -1,4 +1,4 @@
-//! The look at all fields of reached objects.
+//! The test of all fields of reached objects.
 
 ghost use Rattle.std.specs.Prelude.{◌<◌};
 ghost use Rattle.verify.specs.Searches.{TellsReached, FoundField, FoundBad, FoundBadOf};
@@ -8,7 +8,7 @@ use crate::spots::Spots;
 use crate::verdict::Fault;
 use crate::walk::is_reached;
 
-/// The first field of the object at an address whose value isn't good.
+/// Returns the first field of the object at an address whose value isn't good.
 fn bad_field_at(chart: &Chart, address: u64) -> Option<u32>
     requires { 0 < chart.now.words }
     ensures { FoundBad chart.now address result }
@@ -21,7 +21,7 @@ fn bad_field_at(chart: &Chart, address: u64) -> Option<u32>
     None
 }
 
-/// The same of an object that is reached; of any other none.
+/// Returns the same for an object that is reached; `None` for any other.
 fn bad_field_of(chart: &Chart, spots: &Spots, address: u64) -> Option<u32>
     requires sized { 0 < chart.now.words }
     requires spots { TellsReached chart.now spots.now }
@@ -34,7 +34,7 @@ fn bad_field_of(chart: &Chart, spots: &Spots, address: u64) -> Option<u32>
     }
 }
 
-/// The first field of a reached object whose value isn't good, by the objects' addresses.
+/// Returns the first field of a reached object whose value isn't good, in the order of the objects' addresses.
 pub(crate) fn first_bad_field(chart: &Chart, spots: &Spots) -> Option<Fault>
     requires sized { 0 < chart.now.words }
     requires spots { TellsReached chart.now spots.now }

@@ -1,4 +1,4 @@
-//! Whether the frames of an image are in order: each the memory of one page, or free.
+//! The test of an image's frames: each is the memory of one page, or free.
 
 ghost use Rattle.std.specs.Prelude.{if◌then◌else◌, ◌≡◌, ◌≢◌, ◌<◌, ◌≤◌, ◌⊎◌, ◌+◌, ◌==◌, ℕ, false, true, length};
 ghost use Rattle.std.specs.Prelude.{get_or, slice_set, vec_len, IfOk, MatchBool, count_by, nat_lt};
@@ -12,7 +12,7 @@ use model::PageState;
 use std::alloc::{AllocError, Global};
 
 impl Words {
-    /// How many words there are.
+    /// Returns the number of words.
     fn len(&self) -> u64
         ensures { result ≡ length self.now }
     {
@@ -21,14 +21,14 @@ impl Words {
 }
 
 impl PageImage {
-    /// Its frame.
+    /// Returns its frame.
     fn frame(&self) -> Option<u32>
         ensures { result ≡ self.now.frame }
     {
         self.frame
     }
 
-    /// Whether it has a frame exactly where its state says so.
+    /// Returns whether it has a frame exactly if its state says so.
     fn has_its_frame(&self) -> bool
         ensures { TellsIf result (HasItsFrame self.now) }
     {
@@ -39,7 +39,7 @@ impl PageImage {
     }
 }
 
-/// Whether pages may have so many words: a power of two from 16 to 32768.
+/// Returns whether a number is a page size: a power of two from 16 to 32,768.
 fn is_page_size(words: u32) -> bool
     ensures { result ≡ is_page_size words }
 {
@@ -49,7 +49,7 @@ fn is_page_size(words: u32) -> bool
     )
 }
 
-/// Whether a frame, if it is there, has so many words.
+/// Returns whether a frame, if it exists, has this number of words.
 fn has_words(frames: &[Words], words: u32, frame: u32) -> bool
     ensures { result ≡ has_words frames.now words frame }
 {
@@ -59,14 +59,14 @@ fn has_words(frames: &[Words], words: u32, frame: u32) -> bool
     }
 }
 
-/// Whether a frame, if it is there, has no words, or so many.
+/// Returns whether a frame, if it exists, has no words, or this number.
 fn may_be_free(frames: &[Words], words: u32, frame: u32) -> bool
     ensures { result ≡ may_be_free frames.now words frame }
 {
     has_words(frames, 0, frame) || has_words(frames, words, frame)
 }
 
-/// Whether the frame of a page, if it has one, has so many words.
+/// Returns whether the frame of a page, if it has one, has this number of words.
 fn is_filled(frames: &[Words], words: u32, page: &PageImage) -> bool
     ensures { result ≡ is_filled frames.now words page.now.frame }
 {
@@ -76,7 +76,7 @@ fn is_filled(frames: &[Words], words: u32, page: &PageImage) -> bool
     }
 }
 
-/// Whether the frames of all pages have so many words.
+/// Returns whether the frames of all pages have this number of words.
 fn all_filled(frames: &[Words], words: u32, pages: &[PageImage]) -> bool
     ensures { TellsIf result (Each pages.now (λ p. is_filled frames.now words p.frame ≡ true)) }
 {
@@ -88,7 +88,7 @@ fn all_filled(frames: &[Words], words: u32, pages: &[PageImage]) -> bool
     true
 }
 
-/// Whether each free frame has no words, or so many.
+/// Returns whether each free frame has no words, or this number.
 fn all_free(frames: &[Words], words: u32, free: &[u32]) -> bool
     ensures { TellsIf result (Each free.now (λ f. may_be_free frames.now words f ≡ true)) }
 {
@@ -100,7 +100,7 @@ fn all_free(frames: &[Words], words: u32, free: &[u32]) -> bool
     true
 }
 
-/// Whether all pages have a frame exactly where their state says so.
+/// Returns whether each page has a frame exactly if its state says so.
 fn all_framed(pages: &[PageImage]) -> bool
     ensures { TellsIf result (Each pages.now HasItsFrame) }
 {
@@ -112,7 +112,7 @@ fn all_framed(pages: &[PageImage]) -> bool
     true
 }
 
-/// Notes a frame, if there is such a frame, and it wasn't noted before.
+/// Notes a frame, if it exists and wasn't noted before. Returns whether it did.
 fn claim(seen: &mut Vec<bool>, frame: u32) -> bool
     ensures len { vec_len seen.new ≡ vec_len seen.old }
     ensures new { MatchBool result (get_or seen.old.items frame false ≡ false)
@@ -129,7 +129,7 @@ fn claim(seen: &mut Vec<bool>, frame: u32) -> bool
     }
 }
 
-/// Notes the frames of pages, if no two have the same.
+/// Notes the frames of pages. Returns false at the first that doesn't exist or that two pages have.
 fn claim_pages(seen: &mut Vec<bool>, pages: &[PageImage]) -> bool
     requires { (f : ℕ) → get_or seen.old.items f false ≡ false }
     ensures len { vec_len seen.new ≡ vec_len seen.old }
@@ -146,7 +146,7 @@ fn claim_pages(seen: &mut Vec<bool>, pages: &[PageImage]) -> bool
     true
 }
 
-/// Notes free frames, if none was noted before.
+/// Notes free frames. Returns false at the first that doesn't exist or was noted before.
 fn claim_free(seen: &mut Vec<bool>, free: &[u32]) -> bool
     ensures len { vec_len seen.new ≡ vec_len seen.old }
     ensures claimed { MatchBool result (AreNoted seen.new.items (λ f. noted seen.old.items f + times_in free.now f))
@@ -160,7 +160,7 @@ fn claim_free(seen: &mut Vec<bool>, free: &[u32]) -> bool
     true
 }
 
-/// Whether all frames were noted.
+/// Returns whether all frames were noted.
 fn all_seen(seen: &[bool]) -> bool
     ensures { MatchBool result ((f : ℕ) → get_or seen.now f false ≡ nat_lt f (length seen.now))
         ((f : ℕ) × (f < length seen.now) × (get_or seen.now f false ≡ false)) }
@@ -173,7 +173,8 @@ fn all_seen(seen: &[bool]) -> bool
     true
 }
 
-/// Whether each frame of the configured number is owned once or free once, and no other is.
+/// Returns whether each frame of the configured number is owned once or free once, and no other is. Fails only if out
+/// of memory.
 fn all_once(alloc: Global, image: &Image) -> Result<bool, AllocError>
     requires { image.now.frame_count ≤ length image.now.frames }
     ensures { IfOk result (λ yes. TellsIf yes (IsOnce image.now)) }
@@ -188,7 +189,7 @@ fn all_once(alloc: Global, image: &Image) -> Result<bool, AllocError>
     Ok(all_seen(&seen))
 }
 
-/// Whether the frames of an image are in order.
+/// Returns whether the frames of an image are in order. Fails only if out of memory.
 pub(crate) fn has_frames(alloc: Global, image: &Image) -> Result<bool, AllocError>
     ensures { IfOk result (λ yes. TellsIf yes (HasFrames image.now)) }
 {

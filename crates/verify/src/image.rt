@@ -1,21 +1,20 @@
-//! The image of a heap as plain data, in which anything may be wrong.
+//! The image of a heap as plain data, which may have any fault.
 
 use layout::Layout;
 use markbits::Row;
 use model::{Forwarding, PageState};
 use std::marker::Model;
 
-/// A page (ours).
+/// A page.
 #[derive(Debug, Drop)]
 pub struct PageImage {
-    /// How it is used.
+    /// Its state.
     pub state: PageState,
     /// The number of its frame, from 0.
     pub frame: Option<u32>,
-    /// At which offsets objects start. Past its end none does.
+    /// Its start bitmap: at which offsets objects start. Past its end none does.
     pub starts: Row,
-    /// The entries of its side array, where it was protected: of two for one offset the first
-    /// counts.
+    /// The entries of its forwarding table, if it was protected. Of two entries for one offset the first counts.
     pub side: Vec<Forwarding>,
 }
 
@@ -27,10 +26,10 @@ impl Model for PageImage {
     ghost view = { λ p. record { state = p.state; frame = p.frame; starts = p.starts; side = p.side.items } };
 }
 
-/// The words of a frame, or the registers of a thread (ours). Any number may stand there.
+/// The words of a frame, or the registers of a thread: any numbers.
 #[derive(Debug, Drop)]
 pub struct Words {
-    /// In order.
+    /// The words in order.
     pub words: Vec<u64>,
 }
 
@@ -42,12 +41,12 @@ impl Model for Words {
     ghost view = { λ w. w.words.items };
 }
 
-/// The image of a heap (ours). No list has to be as long as another one says.
+/// The image of a heap. Its lists may have any lengths.
 #[derive(Debug, Drop)]
 pub struct Image {
-    /// The words of a page: in a sound image a power of two from 16 to 32768.
+    /// The words of a page: in a sound image a power of two from 16 to 32,768.
     pub words: u32,
-    /// How many frames there are to be.
+    /// The configured number of frames.
     pub frame_count: u32,
     /// The numbers of the free frames.
     pub free: Vec<u32>,
@@ -57,7 +56,7 @@ pub struct Image {
     pub frames: Vec<Words>,
     /// The registers of each thread.
     pub registers: Vec<Words>,
-    /// The word so far of each thread's load, where the thread has one that isn't finished.
+    /// The current reference of each thread's load, if the thread has an open barrier.
     pub loads: Vec<Option<u64>>,
     /// The globals.
     pub globals: Vec<u64>,

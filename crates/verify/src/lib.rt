@@ -1,5 +1,5 @@
-//! The verifier of a heap's image (ours): whether memory and roots, as plain data, are a sound heap,
-//! or else what is wrong first. It knows nothing of the collector that made them.
+//! The verifier of a heap's image: whether memory and roots, as plain data, are a sound heap, or else its first
+//! fault. It knows nothing of the collector that made the image.
 #![tactic(auto)]
 
 mod births;

@@ -1,4 +1,4 @@
-//! The objects of an image, as its bits and headers tell of them.
+//! The objects of an image, by its start bits and headers.
 
 ghost use Rattle.std.specs.Prelude.{◌≡◌, ◌<◌, ◌≤◌, ◌%◌, ◌^◌, ℕ, false, None, get_or, slice_get, option_map};
 ghost use Rattle.std.specs.Option.{option_copied};
@@ -10,17 +10,17 @@ use crate::image::{Image, PageImage, Words};
 use layout::{birth_of, layout_of};
 use refword::Addr;
 
-/// What an object's header tells of it.
+/// An object by its header.
 #[derive(Clone, Copy)]
 pub(crate) struct Object {
     /// Its birth number.
     pub(crate) birth: u64,
-    /// How many reference fields it has.
+    /// The number of its reference fields.
     pub(crate) refs: u16,
 }
 
 impl Words {
-    /// The word at an index, if there are so many.
+    /// Returns the word at an index, if it exists.
     pub(crate) fn get(&self, index: u64) -> Option<u64>
         ensures { result ≡ slice_get self.now index }
     {
@@ -29,7 +29,7 @@ impl Words {
 }
 
 impl PageImage {
-    /// Whether an object starts at an offset.
+    /// Returns whether an object starts at an offset.
     fn starts_at(&self, offset: u64) -> bool
         ensures { result ≡ get_or self.now.starts offset false }
     {
@@ -38,7 +38,7 @@ impl PageImage {
 }
 
 impl Image {
-    /// The page of an address.
+    /// Returns the page of an address.
     #[tactic(auto, unfolding(crate::specs::Images::page_at))]
     pub(crate) fn page_at(&self, address: u64) -> Option<&PageImage>
         requires { 0 < self.now.words }
@@ -52,7 +52,7 @@ impl Image {
         }
     }
 
-    /// The word at an address, if its page has a frame.
+    /// Returns the word at an address, if its page has a frame.
     #[tactic(auto, unfolding(crate::specs::Images::word_at))]
     fn word_at(&self, address: u64) -> Option<u64>
         requires { 0 < self.now.words }
@@ -65,7 +65,7 @@ impl Image {
         frame.get(offset)
     }
 
-    /// Whether the page of an address says that an object starts there.
+    /// Returns whether an address has a start bit.
     fn starts_at(&self, address: u64) -> bool
         requires { 0 < self.now.words }
         ensures { result ≡ starts_on (page_at self.now address) (address % self.now.words) }
@@ -77,7 +77,7 @@ impl Image {
         }
     }
 
-    /// The object whose header is at an address, if its layout is known and it ends in its page.
+    /// Returns the object whose header is at an address, if its layout is known and it ends in its page.
     #[tactic(auto, unfolding(crate::specs::Images::object_in))]
     fn object_in(&self, address: u64) -> Option<Object>
         requires { 0 < self.now.words }
@@ -96,7 +96,7 @@ impl Image {
         }
     }
 
-    /// The object that starts at an address.
+    /// Returns the object that starts at an address.
     #[tactic(auto, unfolding(crate::specs::Images::object_at))]
     pub(crate) fn object_at(&self, address: u64) -> Option<Object>
         requires { 0 < self.now.words }
@@ -109,7 +109,7 @@ impl Image {
         }
     }
 
-    /// The value of a field of the object at an address, if the object has so many.
+    /// Returns the value of a field of the object at an address, if the object has such a field.
     #[tactic(auto, unfolding(crate::specs::Images::field, crate::specs::Images::object_at))]
     pub(crate) fn field(&self, address: u64, index: u32) -> Option<u64>
         requires { 0 < self.now.words }
@@ -123,7 +123,7 @@ impl Image {
         }
     }
 
-    /// How many fields the object at an address has: 0, if there is no object.
+    /// Returns the number of fields of the object at an address; 0 if there is no object.
     #[tactic(auto, unfolding(crate::specs::Images::field))]
     pub(crate) fn refs_at(&self, address: u64) -> u32
         requires { 0 < self.now.words }
@@ -135,7 +135,7 @@ impl Image {
         }
     }
 
-    /// The birth number of the object that starts at an address.
+    /// Returns the birth number of the object that starts at an address.
     pub(crate) fn birth_at(&self, address: u64) -> Option<u64>
         requires { 0 < self.now.words }
         ensures { result ≡ option_map (λ o. o.birth) (object_at self.now address) }
@@ -144,7 +144,7 @@ impl Image {
         Some(object.birth)
     }
 
-    /// A number, at most 2^40, below which the addresses of all objects are.
+    /// Returns a number, at most 2^40, that is above the addresses of all objects.
     pub(crate) fn space(&self) -> u64
         requires sized { 0 < self.now.words }
         requires page { self.now.words ≤ MOST_WORDS }

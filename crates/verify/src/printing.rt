@@ -1,14 +1,18 @@
-//! The text of an image (ours): all that is in it, a line for each part, so that a fault can be
-//! studied, and a planted one written down. Each line ends with a newline.
+//! The text of an image: all parts of it, a line for each, so that a fault can be studied, and an image with a
+//! planted fault written down. Each line ends with a newline.
 //!
 //! | Line | For |
 //! |---|---|
-//! | `image words W frames N free F F ..` | the whole: the words of a page, how many frames there are to be, and which are free |
-//! | `layout R D` | each layout: how many references and data |
-//! | `page P STATE frame F starts O O .. side O>A O>A* ..` | each page, from 1: its frame, or `-`; at which offsets objects start; its side array, an offset and the address that its object goes to, in decimals, with `*` where it is copied |
-//! | `frame F X X ..` | each frame, from 0: its words, in hexadecimal digits |
-//! | `thread T load X registers X X ..` | each thread, from 0: the word so far of its load, or `-`, and its registers, in hexadecimal digits |
+//! | `image words W frames N free F F ..` | the words of a page, the configured number of frames, the free ones |
+//! | `layout R D` | each layout: its numbers of references and data |
+//! | `page P STATE frame F starts O O .. side O>A O>A* ..` | each page, from 1 |
+//! | `frame F X X ..` | each frame, from 0: its words |
+//! | `thread T load X registers X X ..` | each thread, from 0: the current reference of its load, and its registers |
 //! | `global G X` | each global, from 0 |
+//!
+//! A page without a frame, and a thread without a load, have `-` there. `starts` has the offsets of a page's start
+//! bits, `side` its forwarding table: offsets and new addresses, in decimals, with `*` if the object is copied. Words
+//! and references are in hexadecimal digits.
 
 use crate::image::{Image, PageImage, Words};
 use layout::Layout;
@@ -137,7 +141,7 @@ fn put_globals<W: Write>(f: &mut Formatter<W>, globals: &[u64]) -> Result {
 }
 
 impl Image {
-    /// The registers of a thread; none past the list.
+    /// Returns the registers of a thread; none past the list.
     fn registers_of(&self, thread: usize) -> &[u64] {
         match self.registers.get(thread) {
             None => &[],

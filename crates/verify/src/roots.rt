@@ -1,4 +1,4 @@
-//! The roots of an image, and the passes over them that begin a walk.
+//! The roots of an image, and the passes over them with which a walk begins.
 
 ghost use Rattle.std.specs.Prelude.{◌≡◌, ◌<◌, ◌≤◌, ◌+◌, [], length, get_or, MatchBool};
 ghost use Rattle.verify.specs.Soundness.{root_value};
@@ -14,7 +14,7 @@ use crate::verdict::Root;
 use crate::walk::Walk;
 
 impl Image {
-    /// The value of a root, if there is that root.
+    /// Returns the value of a root, if there is such a root.
     fn root(&self, root: Root) -> Option<u64>
         ensures { result ≡ root_value self.now root }
     {
@@ -25,14 +25,14 @@ impl Image {
         }
     }
 
-    /// How many threads have registers.
+    /// Returns how many threads have registers.
     fn thread_count(&self) -> usize
         ensures { result ≡ length self.now.registers }
     {
         self.registers.len()
     }
 
-    /// How many registers a thread has.
+    /// Returns the number of registers of a thread.
     fn register_count(&self, thread: usize) -> usize
         ensures { result ≡ length (get_or self.now.registers thread []) }
     {
@@ -42,14 +42,14 @@ impl Image {
         }
     }
 
-    /// How many threads may have loads.
+    /// Returns how many threads may have loads.
     fn load_count(&self) -> usize
         ensures { result ≡ length self.now.loads }
     {
         self.loads.len()
     }
 
-    /// How many globals there are.
+    /// Returns the number of globals.
     fn global_count(&self) -> usize
         ensures { result ≡ length self.now.globals }
     {
@@ -58,7 +58,7 @@ impl Image {
 }
 
 impl Walk {
-    /// Comes to what a root leads to, and tells whether its value is good.
+    /// Visits the address to which a root leads, and returns whether the root's value is good.
     fn pass(&mut self, chart: &Chart, root: Root) -> bool
         requires sized { 0 < chart.now.words }
         requires walk { IsWalk chart.now self.old }
@@ -79,7 +79,7 @@ impl Walk {
         }
     }
 
-    /// Passes a thread's registers, up to the first whose value isn't good.
+    /// Passes a thread's registers. Returns the first whose value isn't good.
     fn pass_thread(&mut self, chart: &Chart, thread: usize) -> Option<Root>
         requires sized { 0 < chart.now.words }
         requires walk { IsWalk chart.now self.old }
@@ -96,7 +96,7 @@ impl Walk {
         None
     }
 
-    /// Passes all registers, up to the first whose value isn't good.
+    /// Passes all registers. Returns the first whose value isn't good.
     fn pass_registers(&mut self, chart: &Chart) -> Option<Root>
         requires sized { 0 < chart.now.words }
         requires walk { IsWalk chart.now self.old }
@@ -111,7 +111,7 @@ impl Walk {
         None
     }
 
-    /// Passes all loads, up to the first whose word so far isn't good.
+    /// Passes all loads. Returns the first whose current reference isn't good.
     fn pass_loads(&mut self, chart: &Chart) -> Option<Root>
         requires sized { 0 < chart.now.words }
         requires walk { IsWalk chart.now self.old }
@@ -128,7 +128,7 @@ impl Walk {
         None
     }
 
-    /// Passes all globals, up to the first whose value isn't good.
+    /// Passes all globals. Returns the first whose value isn't good.
     fn pass_globals(&mut self, chart: &Chart) -> Option<Root>
         requires sized { 0 < chart.now.words }
         requires walk { IsWalk chart.now self.old }
@@ -145,7 +145,7 @@ impl Walk {
         None
     }
 
-    /// Passes all roots, up to the first whose value isn't good.
+    /// Passes all roots. Returns the first whose value isn't good.
     fn pass_roots(&mut self, chart: &Chart) -> Option<Root>
         requires sized { 0 < chart.now.words }
         requires walk { IsWalk chart.now self.old }
@@ -162,8 +162,8 @@ impl Walk {
     }
 }
 
-/// Which addresses are reached, or the first root whose value isn't good, by a walk that has come
-/// nowhere.
+/// Returns which addresses are reached, by a walk that has met nothing yet. Fails with the first root whose value
+/// isn't good.
 pub(crate) fn find_reached(mut walk: Walk, chart: &Chart) -> Result<Spots, Root>
     requires sized { 0 < chart.now.words }
     requires walk { IsWalk chart.now walk }

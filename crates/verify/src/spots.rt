@@ -1,5 +1,4 @@
-//! What a walk knows of each address: a list for each page with memory, and nothing of other pages, where no object
-//! is.
+//! The spots of a walk: a list for each page with memory, and none for other pages, which have no objects.
 
 ghost use Rattle.std.specs.Prelude.{◌≡◌, ◌≢◌, ◌<◌, ◌≤◌, ◌+◌, ℕ, [], length, IfOk, MatchBool, count_by};
 ghost use Rattle.std.specs.Prelude.{get_or, slice_set};
@@ -14,26 +13,26 @@ use crate::image::{Image, PageImage};
 use std::alloc::{AllocError, Global};
 use std::marker::Model;
 
-/// What a walk knows of an address.
+/// A spot: what a walk knows of an address.
 #[derive(Clone, Copy)]
 pub(crate) enum Spot {
     /// No object starts there.
     Empty,
-    /// An object starts there, and the walk hasn't come to it.
+    /// An object starts there, which the walk hasn't met.
     Unseen,
-    /// An object starts there, and the walk has come to it.
+    /// An object starts there, which the walk has met.
     Reached,
 }
 
 impl Spot {
-    /// Whether an object starts there to which the walk hasn't come.
+    /// Returns whether an object starts there that the walk hasn't met.
     pub(crate) fn is_unseen(&self) -> bool
         ensures { result ≡ is_unseen self.now }
     {
         matches!(self, Spot::Unseen)
     }
 
-    /// Whether no object starts there.
+    /// Returns whether no object starts there.
     fn is_empty(&self) -> bool
         ensures { MatchBool result (self.now ≡ Empty) (self.now ≢ Empty) }
     {
@@ -41,7 +40,7 @@ impl Spot {
     }
 }
 
-/// What a walk knows of a page, by offset. Past its end no object starts.
+/// The spots of a page, by offset. Past the list's end no object starts.
 #[derive(Drop)]
 struct PageSpots {
     spots: Vec<Spot>,
@@ -57,7 +56,7 @@ impl Model for PageSpots {
 }
 
 impl PageSpots {
-    /// What is known of an offset.
+    /// Returns the spot at an offset.
     fn get(&self, offset: u64) -> Spot
         ensures { result ≡ spot_at self.now offset }
     {
@@ -69,7 +68,7 @@ impl PageSpots {
         }
     }
 
-    /// The walk comes to an offset.
+    /// Sets the spot at an offset to Reached.
     fn reach(&mut self, offset: u64)
         ensures { self.new ≡ slice_set self.old offset Reached }
     {
@@ -79,7 +78,7 @@ impl PageSpots {
         }
     }
 
-    /// The first offset from one on where an object starts.
+    /// Returns the first offset from one on at which an object starts.
     fn next_filled(&self, from: u64) -> Option<u64>
         ensures { IsNextFilled self.now from result }
     {
@@ -92,7 +91,7 @@ impl PageSpots {
     }
 }
 
-/// What a walk knows of all addresses. A contract sees a list of all.
+/// The spots at all addresses. A contract sees the list of all.
 #[derive(Drop)]
 pub(crate) struct Spots {
     words: u32,
@@ -113,7 +112,7 @@ impl Model for Spots {
 }
 
 impl Spots {
-    /// What is known of an address. Past the last no object starts.
+    /// Returns the spot at an address. Past the last no object starts.
     pub(crate) fn get(&self, address: u64) -> Spot
         ensures { result ≡ spot_at self.now address }
     {
@@ -124,7 +123,7 @@ impl Spots {
         spot_in(&self.pages, address / words, address % words)
     }
 
-    /// The walk comes to an object.
+    /// Sets the spot at an object's address to Reached.
     pub(crate) fn reach(&mut self, address: u64)
         requires { spot_at self.old address ≢ Empty }
         ensures { self.new ≡ slice_set self.old address Reached }
@@ -137,7 +136,7 @@ impl Spots {
         }
     }
 
-    /// The first address from one on where an object starts. Pages without memory are passed over.
+    /// Returns the first address from one on at which an object starts. Pages without memory are skipped.
     pub(crate) fn next_filled(&self, from: u64) -> Option<u64>
         ensures next { IsNextFilled self.now from result }
         ensures range { IfSome result (λ a. a < 2 ^ 40) }
@@ -160,7 +159,7 @@ impl Spots {
     }
 }
 
-/// What is known of an offset of the page of an index, if there is one.
+/// Returns the spot at an offset of the page of an index, if there is such a page.
 fn spot_in(pages: &[PageSpots], index: u64, offset: u64) -> Spot
     ensures { result ≡ spot_at (get_or pages.now index []) offset }
 {
@@ -170,7 +169,7 @@ fn spot_in(pages: &[PageSpots], index: u64, offset: u64) -> Spot
     }
 }
 
-/// The first offset from one on where an object starts on the page of an index, if there is one.
+/// Returns the first offset from one on at which an object starts on the page of an index, if there is such a page.
 fn next_on(pages: &[PageSpots], index: u64, offset: u64) -> Option<u64>
     ensures { IsNextFilled (get_or pages.now index []) offset result }
 {
@@ -181,7 +180,7 @@ fn next_on(pages: &[PageSpots], index: u64, offset: u64) -> Option<u64>
 }
 
 impl PageImage {
-    /// Whether an object may start at an offset.
+    /// Returns whether an object may start at an offset.
     fn may_start(&self, offset: u64) -> bool
         ensures { result ≡ get_or self.now.starts offset false }
     {
@@ -189,7 +188,7 @@ impl PageImage {
     }
 }
 
-/// What stands at an address before a walk.
+/// Returns the spot at an address before a walk.
 fn first_spot(image: &Image, address: u64) -> Spot
     requires { 0 < image.now.words }
     ensures { result ≡ first_spot (object_at image.now address) }
@@ -200,7 +199,7 @@ fn first_spot(image: &Image, address: u64) -> Spot
     }
 }
 
-/// What stands at an address of a page, by its offset there, before a walk.
+/// Returns the spot at an address of a page, by its offset there, before a walk.
 fn spot_of(image: &Image, page: &PageImage, address: u64, offset: u64) -> Spot
     requires sized { 0 < image.now.words }
     requires page { page_at image.now address ≡ Some page.now }
@@ -214,7 +213,7 @@ fn spot_of(image: &Image, page: &PageImage, address: u64, offset: u64) -> Spot
     }
 }
 
-/// What stands on a page with memory, which begins at an address, before a walk.
+/// Returns the spots of a page with memory, which begins at an address, before a walk.
 fn filled(
     alloc: Global,
     image: &Image,
@@ -236,7 +235,7 @@ fn filled(
     Ok(PageSpots { spots })
 }
 
-/// Nothing is known of a page.
+/// Returns the empty list of spots of a page.
 fn unfilled(alloc: Global) -> PageSpots
     ensures { result ≡ [] }
 {
@@ -245,7 +244,7 @@ fn unfilled(alloc: Global) -> PageSpots
     }
 }
 
-/// What stands on a page, which begins at an address, before a walk. Where it has no memory, no object is there.
+/// Returns the spots of a page, which begins at an address, before a walk. A page without memory has none.
 fn page_spots(alloc: Global, image: &Image, base: u64) -> Result<PageSpots, AllocError>
     requires sized { 0 < image.now.words }
     requires base { base % image.now.words ≡ 0 }
@@ -264,7 +263,7 @@ fn page_spots(alloc: Global, image: &Image, base: u64) -> Result<PageSpots, Allo
 }
 
 impl Spots {
-    /// What stands at each address before a walk. Fails only by memory.
+    /// Returns the spots before a walk. Fails only if out of memory.
     pub(crate) fn new(alloc: Global, image: &Image) -> Result<Spots, AllocError>
         requires sized { 0 < image.now.words }
         requires page { image.now.words ≤ MOST_WORDS }
@@ -286,7 +285,7 @@ impl Spots {
         })
     }
 
-    /// How many objects the walk hasn't come to.
+    /// Returns the number of objects that the walk hasn't met.
     pub(crate) fn unseen(&self) -> usize
         ensures { result ≡ count_by is_unseen self.now }
     {

@@ -1,4 +1,4 @@
-//! Side arrays by offset, so that nobody searches them.
+//! Forwarding tables by offset, so that no look-up searches them from the beginning.
 
 ghost use Rattle.std.specs.Prelude.{◌≡◌, ◌<◌, ◌==◌, ℕ, true, IfOk, length, get_or, replicate, None, if◌then◌else◌};
 ghost use Rattle.model.specs.Holding.{AreRising};
@@ -10,7 +10,7 @@ use refword::Addr;
 use std::alloc::{AllocError, Global};
 use std::marker::Model;
 
-/// An address that may be missing, in one word, which is 0 where it is.
+/// An address that may be missing, in one word, which is 0 if it is missing.
 #[derive(Clone, Copy)]
 struct Place {
     number: u64,
@@ -32,7 +32,7 @@ impl Model for Place {
 }
 
 impl Place {
-    /// The same in one word.
+    /// Returns the place of an address.
     fn of(address: Option<Addr>) -> Place
         ensures { result ≡ address }
     {
@@ -44,7 +44,7 @@ impl Place {
         }
     }
 
-    /// The address.
+    /// Returns the address.
     fn address(self) -> Option<Addr>
         ensures { result ≡ self }
     {
@@ -56,8 +56,8 @@ impl Place {
     }
 }
 
-/// A side array, so that nobody searches it from its beginning. One whose offsets rise, as those of a heap do, has
-/// no places, and is halved; of another one, the places say where the object of each offset of a page was copied to.
+/// A table of a forwarding table, for fast look-ups. If the offsets rise, as those of a heap do, it has no places,
+/// and the look-up is a binary search; else its places are, by offset, the addresses to which objects were copied.
 #[derive(Drop)]
 pub(crate) struct Table {
     places: Option<Vec<Place>>,
@@ -72,7 +72,7 @@ impl Model for Table {
 }
 
 impl Table {
-    /// The table of a side array, in a page of so many words. Fails only by memory.
+    /// Returns the table of a forwarding table, by the number of words of a page. Fails only if out of memory.
     pub(crate) fn new(alloc: Global, side: &[Forwarding], words: u32) -> Result<Table, AllocError>
         ensures { IfOk result (Tells side.now words) }
     {
@@ -85,7 +85,8 @@ impl Table {
         })
     }
 
-    /// Where the object of an offset was copied to, by the table of a side array in a page of so many words.
+    /// Returns the address to which the object of an offset was copied, by the table of a forwarding table, and the
+    /// number of words of a page.
     pub(crate) fn get(&self, side: &[Forwarding], words: u32, offset: u64) -> Option<Addr>
         requires table { Tells side.now words self.now }
         requires within { offset < words }
@@ -98,7 +99,7 @@ impl Table {
     }
 }
 
-/// Whether the offsets of a side array rise, in a page of so many words.
+/// Returns whether the offsets of a forwarding table rise, in a page of a number of words.
 fn is_rising(side: &[Forwarding], words: u32) -> bool
     ensures { result ≡ true → AreRising words 0 side.now }
 {
@@ -113,7 +114,7 @@ fn is_rising(side: &[Forwarding], words: u32) -> bool
     true
 }
 
-/// Where the object of an offset was copied to, by a side array whose offsets rise.
+/// Returns the address to which the object of an offset was copied, by a forwarding table whose offsets rise.
 fn search(side: &[Forwarding], words: u32, offset: u64) -> Option<Addr>
     requires { AreRising words 0 side.now }
     ensures { result ≡ copy_in side.now offset }
@@ -124,7 +125,7 @@ fn search(side: &[Forwarding], words: u32, offset: u64) -> Option<Addr>
     }
 }
 
-/// The places of a side array, in a page of so many words. Fails only by memory.
+/// Returns the places of a forwarding table, by the number of words of a page. Fails only if out of memory.
 fn places_of(alloc: Global, side: &[Forwarding], words: u32) -> Result<Vec<Place>, AllocError>
     ensures { IfOk result (λ places. ArePlaces side.now words places.items) }
 {
@@ -135,7 +136,7 @@ fn places_of(alloc: Global, side: &[Forwarding], words: u32) -> Result<Vec<Place
     Ok(places)
 }
 
-/// The place of an offset; none, where there is no such offset.
+/// Returns the place of an offset; `None` if there is no such offset.
 fn place_at(places: &[Place], offset: u64) -> Option<Addr>
     ensures { result ≡ get_or places.now offset None }
 {
@@ -147,7 +148,7 @@ fn place_at(places: &[Place], offset: u64) -> Option<Addr>
     }
 }
 
-/// So many places, and nothing copied to any. Fails only by memory.
+/// Returns `count` places of missing addresses. Fails only if out of memory.
 fn nowhere(alloc: Global, count: u32) -> Result<Vec<Place>, AllocError>
     ensures { IfOk result (λ places. places.items ≡ replicate count None) }
 {
@@ -158,14 +159,14 @@ fn nowhere(alloc: Global, count: u32) -> Result<Vec<Place>, AllocError>
     Ok(places)
 }
 
-/// Where an entry says that its object was copied to.
+/// Returns the address to which an entry's object was copied, if it was.
 fn copy_of(entry: Forwarding) -> Option<Addr>
     ensures { result ≡ copy_of entry }
 {
     if entry.copied { Some(entry.to) } else { None }
 }
 
-/// Writes down what an entry says of its offset, if there is such an offset.
+/// Writes the place of an entry's offset, if there is such an offset.
 fn put(places: &mut Vec<Place>, entry: Forwarding)
     ensures len { length places.new.items ≡ length places.old.items }
     ensures each { (o : ℕ) → o < length places.old.items → get_or places.new.items o None

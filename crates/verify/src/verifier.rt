@@ -15,9 +15,9 @@ use crate::verdict::{Fault, Verdict};
 use crate::walk::Walk;
 use std::alloc::{AllocError, Global};
 
-/// Whether an image is sound, or else its first fault (ours): the frames first, then roots, then
-/// fields of reached objects, then births. Its time is linear in the words and objects of the
-/// image. Fails only by memory; all of it but the births' is taken before the walk begins.
+/// Returns whether an image is sound, or else its first fault: the frames first, then roots, then fields of reached
+/// objects, then births. Its time is linear in the words and objects of the image. Fails only if out of memory; all
+/// memory except that for births is allocated before the walk begins.
 pub fn verify_image(alloc: Global, image: &Image) -> Result<Verdict, AllocError>
     ensures { IfOk result (VerdictIs image.now) }
 {
@@ -29,7 +29,7 @@ pub fn verify_image(alloc: Global, image: &Image) -> Result<Verdict, AllocError>
     verify_chart(alloc, walk, &chart)
 }
 
-/// The same, where the frames are in order, by a walk that has come nowhere. Fails only by memory.
+/// Returns the same if the frames are in order, by a walk that has met nothing yet. Fails only if out of memory.
 fn verify_chart(alloc: Global, walk: Walk, chart: &Chart) -> Result<Verdict, AllocError>
     requires frames { HasFrames chart.now }
     requires walk { IsWalk chart.now walk }
@@ -48,7 +48,7 @@ fn verify_chart(alloc: Global, walk: Walk, chart: &Chart) -> Result<Verdict, All
     }
 }
 
-/// There is one verdict on an image (ours).
+/// Proves that there is one verdict on an image.
 pub fn one_verdict()
     ensures { OneVerdict }
 {}

@@ -1,4 +1,4 @@
-//! The walk along references that finds which objects are reached.
+//! The walk along references that finds all reached objects.
 
 ghost use Rattle.std.specs.Prelude.{◌≡◌, ◌≢◌, ◌<◌, ◌≤◌, ◌++◌, ◌∷◌, [], IfOk, MatchBool, MatchOption};
 ghost use Rattle.model.specs.declared.limits.TheConstants.{MOST_WORDS};
@@ -11,8 +11,8 @@ use crate::spots::{Spot, Spots};
 use std::alloc::{AllocError, Global};
 use std::marker::Model;
 
-/// A walk: what it knows of each address, and the addresses that wait for a look at their fields. It
-/// has room for all that may ever wait.
+/// A walk: its spots, and the addresses that wait for their objects to be scanned. It has space for all that may ever
+/// wait.
 #[derive(Drop)]
 pub(crate) struct Walk {
     spots: Spots,
@@ -31,7 +31,7 @@ impl Model for Walk {
 }
 
 impl Walk {
-    /// A walk that has come nowhere. Fails only by memory.
+    /// Returns a walk that has met nothing. Fails only if out of memory.
     pub(crate) fn new(alloc: Global, image: &Image) -> Result<Walk, AllocError>
         requires sized { 0 < image.now.words }
         requires page { image.now.words ≤ MOST_WORDS }
@@ -42,7 +42,7 @@ impl Walk {
         Ok(Walk { spots, waiting })
     }
 
-    /// Comes to an object.
+    /// Meets an object: if it wasn't met before, its address waits.
     #[tactic(auto, unfolding(crate::specs::Walks::with_visit))]
     pub(crate) fn visit(&mut self, address: u64)
         requires { spot_at self.old.spots address ≢ Empty }
@@ -55,7 +55,7 @@ impl Walk {
         }
     }
 
-    /// The next address whose fields are to be looked at.
+    /// Returns the next address whose object is to be scanned.
     fn next(&mut self) -> Option<u64>
         ensures spots { self.new.spots ≡ self.old.spots }
         ensures waiting { MatchOption result ((self.new ≡ self.old) × (self.old.waiting ≡ []))
@@ -64,7 +64,7 @@ impl Walk {
         self.waiting.pop()
     }
 
-    /// Looks at the fields of the object at an address.
+    /// Visits the addresses to which the fields of the object at an address lead.
     fn visit_fields(&mut self, chart: &Chart, address: u64)
         requires sized { 0 < chart.now.words }
         requires walk { IsWalkAt chart.now address 0 self.old }
@@ -79,7 +79,7 @@ impl Walk {
         }
     }
 
-    /// Looks at the fields of all that waits, until nothing does.
+    /// Scans the objects at all waiting addresses, until none waits.
     pub(crate) fn finish(&mut self, chart: &Chart)
         requires sized { 0 < chart.now.words }
         requires walk { IsWalk chart.now self.old }
@@ -92,7 +92,7 @@ impl Walk {
         }
     }
 
-    /// What it knows of each address.
+    /// Returns its spots.
     pub(crate) fn into_spots(self) -> Spots
         ensures { result ≡ self.spots }
     {
@@ -101,7 +101,7 @@ impl Walk {
     }
 }
 
-/// Whether the walk came to an address.
+/// Returns whether the walk has met an address.
 pub(crate) fn is_reached(spots: &Spots, address: u64) -> bool
     ensures { MatchBool result (spot_at spots.now address ≡ Reached) (spot_at spots.now address ≡ Reached → ⊥) }
 {

@@ -1,4 +1,4 @@
-//! Steps that are done at once, when nothing is due: the read barrier's fast path.
+//! Steps that are done at once if no trap is due: the read barrier's fast path.
 
 pub mod found;
 mod globals;
@@ -19,7 +19,7 @@ use crate::heap::at_once::words::Spot;
 use refword::Word;
 
 impl Heap {
-    /// Whether a mark runs and a word hasn't the collector's NMT value.
+    /// Returns whether a mark runs and a word's NMT bit isn't the clean value.
     #[inline(always)]
     fn mark_is_due(&self, word: Word) -> bool
         ensures { result ≡ mark_is_due self.now word }
@@ -30,7 +30,7 @@ impl Heap {
         word.nmt() != self.nmt
     }
 
-    /// Whether a word is null, or on a page that has memory and isn't protected.
+    /// Returns whether a word is null, or on a page that has memory and isn't protected.
     #[inline(always)]
     fn is_free(&self, word: Word) -> bool
         ensures { result ≡ true → IfSome word (λ v. IsOpenTo self.now v.0) }
@@ -41,8 +41,8 @@ impl Heap {
         self.frame_at_once(word.number()).is_some()
     }
 
-    /// Whether no trap is due for a word, whatever thread has loaded it: it is neither to be marked nor
-    /// on a protected page.
+    /// Returns whether no trap is due for a word, whichever thread has loaded it: it needs no marking and is on no
+    /// protected page.
     #[inline(always)]
     fn is_quiet(&self, word: Word) -> bool
         ensures { result ≡ true → IsQuiet self.now word }
@@ -53,8 +53,8 @@ impl Heap {
         self.is_free(word)
     }
 
-    /// The word in a register of a thread, by their numbers from 0, if both are there, the thread runs, and
-    /// its barrier is closed.
+    /// Returns the word in a register of a thread, by their numbers from 0, if both exist, the thread runs, and its
+    /// barrier is closed.
     #[inline(always)]
     fn held_at_once(&self, thread: u32, register: u32) -> Option<Word>
         ensures { IfSome result (HoldsAtOnce self.now thread register) }
@@ -68,7 +68,7 @@ impl Heap {
         Some(held)
     }
 
-    /// The object that a register of a thread names, where the thread may load a reference of it for another
+    /// Returns the object that a register of a thread names, if the thread may load a reference of it into another
     /// register. Threads and registers count from 0.
     #[inline(always)]
     fn named_at_once(&self, thread: u32, target: u32, object: u32) -> Option<Spot>
@@ -82,8 +82,7 @@ impl Heap {
         Some(Spot { address, frame })
     }
 
-    /// The bits of a reference of an object, by the reference's number from 0, where it stands on the
-    /// object's page.
+    /// Returns the bits of a reference of an object, by the reference's number from 0, if it is on the object's page.
     #[inline(always)]
     fn bits_at_once(&self, spot: &Spot, field: u32) -> Option<u64>
         requires { IsOnFrame self.now spot.now.address spot.now.frame }
@@ -94,8 +93,8 @@ impl Heap {
         Some(bits)
     }
 
-    /// Loads a reference field of an object into a register, completely, if no test refuses it and no
-    /// trap is due: it then does what `Load` and `Finish` do, and returns true. Else nothing is done.
+    /// Loads a reference field of an object into a register, completely, if no test rejects it and no trap is due: it
+    /// then does what `Load` and `Finish` do, and returns true. Else nothing is done.
     #[inline(always)]
     pub fn load_at_once(&mut self, thread: u32, target: u32, object: u32, field: u32) -> bool
         ensures { MayLoadAtOnce result self.old thread (steps.Load target object field) self.new }
@@ -114,7 +113,7 @@ impl Heap {
         true
     }
 
-    /// A register of a thread whose barrier isn't open gets a word that was loaded.
+    /// Writes a word that was loaded to a register of a thread whose barrier isn't open.
     #[inline(always)]
     fn read_into(&mut self, thread: u32, target: u32, word: Word)
         requires { barrier_of_thread self.old thread ≡ None }
@@ -124,8 +123,8 @@ impl Heap {
         self.threads.set_read(thread, target, word);
     }
 
-    /// The object that a register of a thread names, where the thread may use it. Threads and registers
-    /// count from 0.
+    /// Returns the object that a register of a thread names, if the thread may use it. Threads and registers count
+    /// from 0.
     #[inline(always)]
     fn object_at_once(&self, thread: u32, object: u32) -> Option<Spot>
         ensures uses { IfSome result (λ s. UsesAtOnce self.now thread object s.address) }
@@ -137,7 +136,7 @@ impl Heap {
         Some(Spot { address, frame })
     }
 
-    /// The header of the object that a register of a thread names, by their numbers from 0, if the thread
+    /// Returns the header of the object that a register of a thread names, by their numbers from 0, if the thread
     /// runs, its barrier is closed, and it may use the object.
     #[inline(always)]
     pub fn header_at_once(&self, thread: u32, register: u32) -> Option<u64>
@@ -148,7 +147,7 @@ impl Heap {
         Some(header)
     }
 
-    /// A data word of an object, where nothing refuses it, and it stands on the object's page.
+    /// Returns a data word of an object, if no test rejects it and it is on the object's page.
     #[inline(always)]
     pub fn datum_at_once(&self, thread: u32, object: u32, index: u32) -> Option<u64>
         ensures { IfSome result (GivesDatum self.now thread object index) }
@@ -159,7 +158,7 @@ impl Heap {
         Some(value)
     }
 
-    /// The word in a register of a thread, by their numbers from 0, if it is null or may be used.
+    /// Returns the word in a register of a thread, by their numbers from 0, if it is null or may be used.
     #[inline(always)]
     fn source_at_once(&self, thread: u32, register: u32) -> Option<Word>
         ensures { IfSome result (SourceAtOnce self.now thread register) }
@@ -173,7 +172,7 @@ impl Heap {
         Some(word)
     }
 
-    /// Whether two registers of a thread name the same object, or both none, if no test refuses it.
+    /// Returns whether two registers of a thread name the same object, or are both null, if no test rejects it.
     #[inline(always)]
     pub fn same_at_once(&self, thread: u32, left: u32, right: u32) -> Option<bool>
         ensures { IfSome result (GivesSame self.now thread left right) }
@@ -185,8 +184,8 @@ impl Heap {
         Some(left.number() == right.number())
     }
 
-    /// Stores a register's word in a reference field of an object, if no test refuses it. Returns whether
-    /// it is done; else nothing is.
+    /// Stores a register's word in a reference field of an object, if no test rejects it. Returns whether it did;
+    /// else nothing is done.
     #[inline(always)]
     pub fn store_at_once(&mut self, thread: u32, object: u32, field: u32, source: u32) -> bool
         ensures { MayDoAtOnce result self.old thread (steps.Store object field source) self.new }
@@ -203,8 +202,7 @@ impl Heap {
         self.set_word_on(&spot, ahead, word.bits())
     }
 
-    /// Writes a data word of an object, if no test refuses it. Returns whether it is done; else nothing
-    /// is.
+    /// Writes a data word of an object, if no test rejects it. Returns whether it did; else nothing is done.
     #[inline(always)]
     pub fn set_datum_at_once(&mut self, thread: u32, object: u32, index: u32, value: u64) -> bool
         ensures { MayDoAtOnce result self.old thread (steps.SetDatum object index value) self.new }

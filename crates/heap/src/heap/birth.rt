@@ -22,7 +22,7 @@ use model::{Buffer, Phase, Refusal};
 use page::Store;
 use refword::{Addr, Word};
 
-/// Writes a zero at an index, if it is there.
+/// Writes a zero at an index, if it is in range.
 #[inline(always)]
 fn clear_at(words: &mut [u64], index: usize)
     ensures { words.new ≡ slice_set words.old index 0 }
@@ -84,9 +84,9 @@ fn write_new(store: &mut Store, buffer: Buffer, header: u64, others: u32)
     write_object(part, header, others as usize);
 }
 
-/// Notes that an object starts at the head of a buffer. While a mark runs it is marked at once,
-/// and to be scanned while threads have still to cross. While none runs, no bit of a mark is mostly set on
-/// the page, and then none is cleared.
+/// Notes that an object starts at the head of a buffer. While a mark runs, it is marked at once, and grey while
+/// threads have still to cross. While none runs, mostly no bit of a mark is set on the page, and then none is
+/// cleared.
 #[inline(always)]
 #[tactic(auto, using(crate::proofs::Births::not_crossing))]
 fn note_start(
@@ -113,11 +113,11 @@ fn note_start(
 }
 
 impl Heap {
-    /// A thread makes an object in its buffer, with null references and data of 0, and a
-    /// register gets its word, which is marked through. Gives its birth number.
+    /// Makes an object in a thread's buffer, with null references and data of 0, and writes its word, which is marked
+    /// through, to a register. Returns its birth number.
     ///
-    /// Refused where there is no buffer, or it has fewer words left than the object
-    /// (`NoRoom`); `BadIndex` where there is no such layout; `Births` where no more may be born.
+    /// Fails with `NoRoom` if there is no buffer, or it has fewer words left than the object; `BadIndex` if there is
+    /// no such layout; `Births` if no more objects may be born.
     #[inline(always)]
     #[tactic(auto, unfolding(model::specs::Births::new_outcome))]
     pub fn new_row(&mut self, thread: u32, target: u32, number: u32) -> Result<u64, Refusal>
@@ -141,7 +141,7 @@ impl Heap {
         Ok(birth)
     }
 
-    /// Makes an object in a buffer that has room for it. Its words come last, as less has to be kept over the call
+    /// Makes an object in a buffer that has space for it. Its words are written last: so less is kept across the call
     /// that lends them.
     #[inline(always)]
     #[tactic(auto, unfolding(model::specs::Births::place_object))]
@@ -175,7 +175,7 @@ impl Heap {
         write_new(&mut self.store, buffer, header.write(), size - 1);
     }
 
-    /// A thread's register gets a new object's word, and its buffer is what is left of it.
+    /// Writes a new object's word to a thread's register, and leaves the thread the rest of its buffer.
     #[inline(always)]
     #[tactic(auto, using(crate::proofs::Keeping::thread_keeps))]
     fn hand_over(&mut self, thread: u32, target: u32, word: Word, rest: Buffer)
@@ -188,7 +188,7 @@ impl Heap {
         self.threads.hand_object(thread, target, word, rest);
     }
 
-    /// The address at which the next object of a buffer starts.
+    /// Returns the address at which the next object of a buffer starts.
     #[inline(always)]
     fn buffer_address(&self, buffer: Buffer) -> Addr
         requires lies { LiesIn self.now.store buffer }

@@ -1,4 +1,4 @@
-//! Buffers of threads.
+//! Allocation buffers of threads.
 
 ghost use Rattle.std.specs.Prelude.{◌≡◌, ◌≤◌, ◌<◌, length, slice_get, Some, None, true, IfOk, IfSome};
 ghost use Rattle.model.specs.Owning.{LiesIn};
@@ -17,7 +17,7 @@ use crate::heap::opening::{PageRows, open_indexed_row, open_row};
 use model::{Buffer, Refusal, Room};
 use std::alloc::AllocError;
 
-/// Why a thread gets no buffer.
+/// Returns why a thread gets no buffer.
 fn refusal_of(room: Room) -> Refusal
     ensures { result ≡ refusal_of room }
 {
@@ -29,7 +29,7 @@ fn refusal_of(room: Room) -> Refusal
 }
 
 impl Heap {
-    /// The buffer of a thread, by its number from 0, if it has one.
+    /// Returns the buffer of a thread, by its number from 0, or `None`.
     pub fn buffer(&self, thread: u32) -> Option<Buffer>
         ensures value { result ≡ buffer_of_thread self.now thread }
         ensures lies { IfSome result (LiesIn self.now.store) }
@@ -37,8 +37,8 @@ impl Heap {
         self.threads.buffer(thread)
     }
 
-    /// Rows for the page of a buffer of so many words that is to be taken, if it is to open. Fails only by
-    /// memory.
+    /// Returns bitmaps for the page of a buffer of `words` words that is to be taken, if that page has to open. Fails
+    /// only if out of memory.
     fn rows_ahead(&self, words: u32) -> Result<PageRows, AllocError>
         requires { 0 < words }
         ensures { IfOk result (λ rows. begins_page self.now.store words ≡ true → AreClear self.now.store.words rows) }
@@ -50,12 +50,11 @@ impl Heap {
         }
     }
 
-    /// A thread takes a buffer of 1 to the words of a page, in the lowest open page with room,
-    /// else in a fresh page. Gives the buffer, which is the thread's then.
+    /// Takes a buffer of 1 to the words of a page for a thread, in the lowest open page with space, else in a fresh
+    /// page. Returns the buffer, which is then the thread's.
     ///
-    /// Refused where it has one (`HasBuffer`); where no page has room and no frame is free
-    /// (`NoFrames`); where no page number is unused (`NoPages`); where memory for a fresh page was
-    /// refused (`Memory`).
+    /// Fails with `HasBuffer` if the thread has one; `NoFrames` if no page has space and no frame is free; `NoPages`
+    /// if no page number is unused; `Memory` if out of memory for a fresh page.
     #[tactic(auto, unfolding(model::specs::Buffers::take_outcome, model::specs::Buffers::lend_buffer), using(model::proofs::Passing::take_low, model::proofs::Passing::take_high, crate::proofs::TakenBuffers::thread_there))]
     pub fn take_row(&mut self, thread: u32, words: u32) -> Result<Buffer, Refusal>
         requires { Passes self.old thread (steps.Take words) }
@@ -80,7 +79,7 @@ impl Heap {
         Ok(buffer)
     }
 
-    /// A thread gives its buffer back, whose rest is lost. Refused where it has none (`NoRoom`).
+    /// Gives a thread's buffer back; the rest of it is lost. Fails with `NoRoom` if the thread has none.
     #[tactic(auto, unfolding(model::specs::Buffers::give_back_outcome, model::specs::Buffers::with_buffer), using(crate::proofs::Keeping::thread_keeps))]
     pub fn give_back_row(&mut self, thread: u32) -> Result<(), Refusal>
         requires { Passes self.old thread steps.GiveBack }

@@ -1,5 +1,4 @@
-//! Raw edits of a heap that the collector makes: marks, scans, crossings, and the start and the end
-//! of a mark.
+//! Raw edits of a heap by the collector: marks, scans, crossings, and the start and the end of a mark.
 
 ghost use Rattle.std.specs.Prelude.{◌≡◌, ◌+◌, ◌/◌, ◌%◌, ◌<◌, length, slice_get, is_none, true, false};
 ghost use Rattle.std.specs.Prelude.{if◌then◌else◌};
@@ -23,39 +22,35 @@ use page::Store;
 use refword::{Addr, Word};
 use thread_records::Threads;
 
-/// Raw edits for the crates that do rows of the collector's steps. Threads, workers and globals count
-/// from 0.
+/// Raw edits for the crates that implement the collector's steps. Threads, workers and globals count from 0.
 pub trait RawCollectorEdits {
-    /// Marks the object that a word names, if it names one: it is to be scanned where it wasn't
-    /// marked before (the paper's Mark phase).
+    /// Marks the object that a word names, if it names one: it becomes grey if it wasn't marked before.
     fn set_mark(&mut self, word: Word);
 
-    /// Gives a worker, if it is there, another object to scan, or none.
+    /// Gives a worker, if it exists, another object to scan, or none.
     fn set_scan(&mut self, worker: u32, scan: Option<Scan>);
 
-    /// A worker, if it is there, has none to scan any more, and its object isn't to be scanned.
+    /// Ends a scan: the worker, if it exists, has no object any more, and the object isn't grey.
     fn end_scan(&mut self, worker: u32, scan: Scan);
 
     /// Writes a word at the place of a reference in memory, if its page has memory.
     fn set_reference(&mut self, place: u64, word: Word);
 
-    /// A global, if it is there, gets a word, and isn't to be marked any more.
+    /// Writes the word of a global, if it exists, which is no longer grey.
     fn set_marked_global(&mut self, number: u32, word: Word);
 
-    /// A thread, if it is there, has crossed; where it is the last, the next phase begins (the
-    /// paper's checkpoints).
+    /// Notes that a thread, if it exists, has crossed; if it is the last, the next phase begins.
     fn set_crossed(&mut self, thread: u32);
 
-    /// A mark starts: the clean value flips, and all threads and globals are to be marked (the
-    /// paper's Mark phase).
+    /// Starts a mark: flips the clean value; all threads have still to cross, and all globals are grey.
     fn start_mark(&mut self);
 
-    /// A mark ends: what it marked is live, open pages without a lent buffer close, protected
-    /// pages are unused again, what was forwarded is forgotten, and the phase is idle.
+    /// Ends a mark: what it marked is live, open pages without a lent buffer close, protected pages are unused again,
+    /// their forwarding tables are empty, and the phase is idle.
     fn end_mark(&mut self);
 }
 
-/// Marks the object at an address: it is to be scanned where it wasn't marked before.
+/// Marks the object at an address: it becomes grey if it wasn't marked before.
 #[inline(always)]
 fn mark_at(mark: &mut Rows, todo: &mut IndexedRows, store: &Store, address: Addr)
     ensures mark { mark.new ≡ with_bit mark.old store.now.words address true }
@@ -68,7 +63,7 @@ fn mark_at(mark: &mut Rows, todo: &mut IndexedRows, store: &Store, address: Addr
     put_bit(mark, store, address, true);
 }
 
-/// Whether the page of an index is open.
+/// Returns whether the page of an index is open.
 fn is_open_at(store: &Store, index: usize) -> bool
     ensures { result ≡ is_open (state_in (slice_get store.now.pages index)) }
 {
@@ -78,7 +73,7 @@ fn is_open_at(store: &Store, index: usize) -> bool
     }
 }
 
-/// Ends a mark for the page of an index. Threads are asked for their buffers where it is open.
+/// Ends a mark for the page of an index. If it is open, the threads' buffers are checked.
 fn end_page(store: &mut Store, threads: &Threads, index: usize)
     requires { index < length store.old.pages }
     ensures { store.new ≡ with_mark_ended_at store.old index (is_lent threads.now (index + 1)) }
@@ -103,7 +98,7 @@ fn end_pages(store: &mut Store, threads: &Threads)
     store.law();
 }
 
-/// Whether the page of an index is protected.
+/// Returns whether the page of an index is protected.
 fn is_protected_at(store: &Store, index: usize) -> bool
     ensures { result ≡ is_protected (state_in (slice_get store.now.pages index)) }
 {
@@ -113,7 +108,7 @@ fn is_protected_at(store: &Store, index: usize) -> bool
     }
 }
 
-/// Protected pages give up their rows.
+/// Frees the bitmaps of protected pages.
 fn give_up_rows(rows: &mut Rows, store: &Store)
     ensures { rows.new ≡ rows_after_mark store.now.pages rows.old }
 {
@@ -124,7 +119,7 @@ fn give_up_rows(rows: &mut Rows, store: &Store)
     }
 }
 
-/// The same of rows with an index.
+/// The same for bitmaps with an index.
 fn give_up_indexed_rows(rows: &mut IndexedRows, store: &Store)
     ensures { rows.new ≡ rows_after_mark store.now.pages rows.old }
 {
@@ -135,7 +130,7 @@ fn give_up_indexed_rows(rows: &mut IndexedRows, store: &Store)
     }
 }
 
-/// The phase after a checkpoint (the paper's checkpoints).
+/// Returns the phase after a checkpoint.
 fn phase_behind(phase: Phase) -> Phase
     ensures { result ≡ phase_behind phase }
 {
@@ -146,7 +141,7 @@ fn phase_behind(phase: Phase) -> Phase
     }
 }
 
-/// The phase after a thread has crossed: the next one where no thread has still to cross.
+/// Returns the phase after a thread has crossed: the next one if no thread has still to cross.
 fn phase_after(threads: &Threads, phase: Phase) -> Phase
     ensures { result ≡ (if is_none (first_behind threads.now) then phase_behind phase else phase) }
 {
@@ -158,7 +153,7 @@ fn phase_after(threads: &Threads, phase: Phase) -> Phase
 }
 
 impl Heap {
-    /// A thread, if it is there, has crossed; the phase stays.
+    /// Notes that a thread, if it exists, has crossed; the phase stays.
     #[tactic(auto, using(crate::proofs::Keeping::thread_keeps))]
     fn cross(&mut self, thread: u32)
         ensures { self.new ≡ record self.old { threads = change_at self.old.threads thread (set_crossed_of true) } }
@@ -167,24 +162,28 @@ impl Heap {
     }
 }
 
-/// Marks the object at an address, and gives whether it was marked, if its page has rows.
+/// Marks the object at an address, by its page and its offset there. Returns whether it was marked before, or `None` if
+/// its page has no mark bitmap.
 #[inline(always)]
-fn set_first(mark: &mut Rows, store: &Store, address: Addr) -> Option<bool>
+fn set_first(mark: &mut Rows, store: &Store, address: Addr, page: u64, offset: u32) -> Option<bool>
+    requires page { page ≡ address / store.now.words }
+    requires offset { offset ≡ address % store.now.words }
     ensures was { result ≡ bit_in mark.old store.now.words address }
     ensures mark { mark.new ≡ with_bit mark.old store.now.words address true }
 {
-    mark.set_on(store.page_of(address), store.offset_of(address))
+    mark.set_on(page, offset)
 }
 
 impl Heap {
-    /// Marks the object that is at an address (the paper's Mark phase). Answers whether it
-    /// wasn't marked before; then it doesn't note that the object is to be scanned: who calls this
-    /// does, by `raw_set_todo`, or scans it.
+    /// Marks the object at an address, by its page and its offset there. Returns whether it wasn't marked before; if
+    /// so, the object isn't grey yet: the caller makes it so by `raw_set_todo`, or scans it.
     #[inline(always)]
-    pub fn raw_mark(&mut self, place: Addr) -> bool
+    pub fn raw_mark(&mut self, place: Addr, page: u64, offset: u32) -> bool
+        requires page { page ≡ place / self.old.store.words }
+        requires offset { offset ≡ place % self.old.store.words }
         ensures { MarksApart self.old place result self.new }
     {
-        match set_first(&mut self.mark, &self.store, place) {
+        match set_first(&mut self.mark, &self.store, place, page, offset) {
             Some(false) => true,
             Some(true) => false,
             None => {
@@ -194,7 +193,7 @@ impl Heap {
         }
     }
 
-    /// The object at an address is to be scanned.
+    /// Makes the object at an address grey.
     #[tactic(auto, unfolding(crate::specs::Marking::noted))]
     pub fn raw_set_todo(&mut self, address: Addr)
         ensures { self.new ≡ noted self.old address }
@@ -202,7 +201,7 @@ impl Heap {
         put_indexed_bit(&mut self.todo, &self.store, address, true);
     }
 
-    /// The object at an address isn't to be scanned. Where none is, that is all that is looked at.
+    /// Makes the object at an address no longer grey. If none is grey, nothing else is read.
     #[inline(always)]
     pub fn raw_clear_todo(&mut self, address: Addr)
         ensures { self.new ≡ record self.old { todo = with_bit self.old.todo self.old.store.words address false } }

@@ -1,5 +1,4 @@
-//! What threads take part in: loads that aren't finished, and checkpoints, both the paper's; and
-//! being parked, which is ours.
+//! The threads' unfinished loads, their checkpoints, and whether they are parked.
 
 ghost use Rattle.std.specs.Prelude.{◌≡◌, slice_get};
 ghost use Rattle.model.specs.Loads.{barrier_of_thread, tally_of_thread};
@@ -11,37 +10,37 @@ use crate::heap::Heap;
 use model::{Barrier, Refusal, Tally};
 
 impl Heap {
-    /// Whether a thread has crossed the open checkpoint, by its number from 0; true where there is
-    /// no such thread.
+    /// Returns whether a thread has crossed the open checkpoint, by its number from 0; true if there is no such
+    /// thread.
     pub fn has_crossed(&self, thread: u32) -> bool
         ensures { result ≡ has_crossed (slice_get self.now.threads thread) }
     {
         self.threads.has_crossed(thread)
     }
 
-    /// Whether a thread is parked, by its number from 0; false where there is no such thread.
+    /// Returns whether a thread is parked, by its number from 0; false if there is no such thread.
     pub fn is_parked(&self, thread: u32) -> bool
         ensures { result ≡ is_parked_in (slice_get self.now.threads thread) }
     {
         self.threads.is_parked(thread)
     }
 
-    /// The load of a thread that isn't finished, by the thread's number from 0, if there is one.
+    /// Returns the unfinished load of a thread, by the thread's number from 0, or `None`.
     pub fn barrier(&self, thread: u32) -> Option<Barrier>
         ensures { result ≡ barrier_of_thread self.now thread }
     {
         self.threads.barrier(thread)
     }
 
-    /// What the loads of a thread have come to, by the thread's number from 0; `None` where there is
-    /// no such thread. Of a book's heap, these are the numbers of the thread's entries of each kind.
+    /// Returns the barrier counters of a thread, by the thread's number from 0, or `None` if there is no such thread.
+    /// In a recorded heap, they are the numbers of the thread's entries of each kind.
     pub fn tally(&self, thread: u32) -> Option<Tally>
         ensures { result ≡ tally_of_thread self.now thread }
     {
         self.threads.tally(thread)
     }
 
-    /// The least thread that hasn't crossed the open checkpoint, by its number from 0.
+    /// Returns the least thread that hasn't crossed the open checkpoint, by its number from 0, or `None`.
     pub fn first_behind(&self) -> Option<u32>
         ensures { result ≡ first_behind self.now.threads }
     {
@@ -50,7 +49,7 @@ impl Heap {
         Some(thread as u32)
     }
 
-    /// Whether all threads have crossed. Refused as `NotCrossed`, with the least that hasn't.
+    /// Tests whether all threads have crossed. Fails with `NotCrossed`, which has the least thread that hasn't.
     #[tactic(auto, unfolding(model::specs::Checkpoints::all_crossed))]
     pub fn all_crossed(&self) -> Result<(), Refusal>
         ensures { result ≡ all_crossed self.now }
@@ -61,7 +60,7 @@ impl Heap {
         }
     }
 
-    /// The least thread that has an open barrier, by its number from 0.
+    /// Returns the least thread that has an open barrier, by its number from 0, or `None`.
     pub fn first_pending(&self) -> Option<u32>
         ensures { result ≡ first_pending self.now.threads }
     {

@@ -1,6 +1,6 @@
 //! Data words of objects.
 
-ghost use Rattle.std.specs.Prelude.{◌≡◌, ◌+◌, ◌<◌, ◌^◌, IfSome};
+ghost use Rattle.std.specs.Prelude.{◌≡◌, ◌+◌, ◌<◌, ◌^◌, IfSome, if◌then◌else◌};
 ghost use Rattle.std.specs.Option.{option_map};
 ghost use Rattle.model.specs.Stores.{with_word};
 ghost use Rattle.model.specs.Data.{layout_at, datum_at, datum_outcome, set_datum_outcome};
@@ -9,6 +9,7 @@ ghost use Rattle.model.specs.Saying.{said, done};
 ghost use Rattle.model.specs.Outcome.{Passes};
 ghost use Rattle.model.specs.declared.steps.Step.TheVariants as steps;
 ghost use Rattle.model.specs.declared.steps.Answer.TheVariants as answers;
+ghost use Rattle.heap.specs.AtOnce.{IsOnFrame};
 
 use crate::heap::Heap;
 use layout::{Layout, layout_of};
@@ -16,7 +17,7 @@ use model::Refusal;
 use refword::Addr;
 
 impl Heap {
-    /// The layout of the object at an address, if a header of a layout in the table is there.
+    /// Returns the layout of the object at an address, if a header of a layout in the table is there.
     #[inline(always)]
     #[tactic(auto, unfolding(model::specs::Data::layout_at))]
     pub fn layout_at(&self, address: Addr) -> Option<Layout>
@@ -26,7 +27,7 @@ impl Heap {
         self.config.layouts.get(layout_of(header))
     }
 
-    /// How many words after the address of an object a data word of it stands.
+    /// Returns how many words after the address of an object a data word of it is, or `None` if it has no such word.
     #[inline(always)]
     #[tactic(auto, unfolding(model::specs::Data::datum_at))]
     pub(crate) fn datum_behind(&self, address: Addr, index: u32) -> Option<u64>
@@ -56,8 +57,22 @@ impl Heap {
         self.store.set_word_behind(address, ahead, value);
     }
 
-    /// Reads a data word, by its number from 0. Refused as `usable` is, then `BadIndex` where the
-    /// object has no such word.
+    /// Writes the word less than 2^17 words after an address on a page that has memory and isn't protected, by the
+    /// page's frame, if it is on the same page. Returns whether it did. It may also be false after the page was lent
+    /// alongside another one; `raw_set_word_behind` then writes it.
+    #[inline(always)]
+    pub fn raw_set_word_on(&mut self, frame: u32, address: Addr, ahead: u64, value: u64) -> bool
+        requires frame { IsOnFrame self.old address frame }
+        requires near { ahead < 2 ^ 17 }
+        ensures { self.new ≡ (if result
+            then record self.old { store = with_word self.old.store (address + ahead) value } else self.old) }
+    {
+        self.store
+            .set_word_on(frame, address.number(), ahead, value)
+    }
+
+    /// Reads a data word, by its number from 0. Fails as `usable` does, then with `BadIndex` if the object has no
+    /// such word.
     #[inline(always)]
     #[tactic(auto, unfolding(model::specs::Data::datum_outcome))]
     pub fn datum_row(&self, thread: u32, object: u32, index: u32) -> Result<u64, Refusal>
@@ -74,7 +89,7 @@ impl Heap {
         }
     }
 
-    /// Writes a data word, by its number from 0. Refused as `datum_row` is.
+    /// Writes a data word, by its number from 0. Fails as `datum_row` does.
     #[inline(always)]
     #[tactic(auto, unfolding(model::specs::Data::set_datum_outcome))]
     pub fn set_datum_row(

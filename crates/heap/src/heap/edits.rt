@@ -1,4 +1,4 @@
-//! Raw edits of a heap. The barrier that some open, change or close is the paper's.
+//! Raw edits of a heap. Some of them open, change or close a read barrier.
 
 ghost use Rattle.std.specs.Prelude.{◌≡◌};
 ghost use Rattle.model.specs.References.{with_global, with_place};
@@ -10,26 +10,25 @@ use crate::heap::Heap;
 use model::{Barrier, Counter, Place};
 use refword::Word;
 
-/// Raw edits for the crates that do rows of steps. Threads, registers and globals count from 0.
+/// Raw edits for the crates that implement steps. Threads, registers and globals count from 0.
 pub trait RawEdits {
-    /// Writes a global, by its number from 0, if it is there.
+    /// Writes a global, by its number from 0, if it exists.
     fn set_global(&mut self, number: u32, word: Word);
 
     /// Writes the place of a load, if it has memory.
     fn set_place(&mut self, place: Place, word: Word);
 
-    /// Opens or changes the barrier of a thread, if the thread is there, which raises a number of its
-    /// tally.
+    /// Opens or changes the barrier of a thread, if the thread exists, and increments one of its barrier counters.
     fn set_barrier(&mut self, thread: u32, barrier: Barrier, counter: Counter);
 
-    /// Ends the load of a thread, if the thread is there: a register, by its number from 0, gets
-    /// the word, and the barrier closes.
+    /// Ends the load of a thread, if the thread exists: a register, by its number from 0, gets the word, and the
+    /// barrier closes.
     fn set_loaded(&mut self, thread: u32, register: u32, word: Word);
 
-    /// Writes a register of a thread, if it is there.
+    /// Writes a register of a thread, if it exists.
     fn set_register(&mut self, thread: u32, register: u32, word: Word);
 
-    /// Parks a thread or lets it run, if it is there.
+    /// Parks a thread or lets it run, if it exists.
     fn set_parked(&mut self, thread: u32, parked: bool);
 }
 

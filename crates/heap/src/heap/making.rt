@@ -23,7 +23,7 @@ struct BlankActors {
     globals: Globals,
 }
 
-/// As many as the configuration says; all registers and globals are null, and no worker scans.
+/// Returns as many as the configuration has; all registers and globals are null, and no worker scans.
 fn blank_actors(alloc: Memory, config: &Config) -> Result<BlankActors, AllocError>
     ensures threads { IfOk result (λ a. a.threads ≡ replicate config.now.threads (blank_thread config.now.registers)) }
     ensures workers { IfOk result (λ a. a.workers.items ≡ replicate config.now.workers None) }
@@ -40,7 +40,7 @@ fn blank_actors(alloc: Memory, config: &Config) -> Result<BlankActors, AllocErro
     })
 }
 
-/// The rows of a new heap.
+/// The bitmaps of a new heap.
 #[derive(Drop)]
 struct BlankRows {
     starts: Rows,
@@ -49,7 +49,7 @@ struct BlankRows {
     todo: IndexedRows,
 }
 
-/// An empty row for each page record that the configuration needs.
+/// Returns an empty bitmap for each page record that the configuration needs.
 fn blank_rows(alloc: Memory, config: &Config) -> Result<BlankRows, AllocError>
     requires { IsRanged config.now }
     ensures starts { IfOk result (λ rows. rows.starts ≡ blank_rows config.now) }
@@ -70,7 +70,7 @@ fn blank_rows(alloc: Memory, config: &Config) -> Result<BlankRows, AllocError>
     })
 }
 
-/// What a new heap is made of, beside its configuration.
+/// The parts of a new heap, except its configuration.
 #[derive(Drop)]
 struct BlankParts {
     store: Store,
@@ -79,8 +79,8 @@ struct BlankParts {
     actors: BlankActors,
 }
 
-/// All parts. Fails only by memory. The store comes last, so that it is never let go here, where that takes the
-/// longest proof of all.
+/// Returns all parts. Fails only if out of memory. The store comes last, so that it is never dropped here: that proof
+/// would take the longest of all.
 fn blank_parts(alloc: Memory, config: &Config) -> Result<BlankParts, AllocError>
     requires { IsRanged config.now }
     ensures { IfOk result (AreBlank config.now) }
@@ -98,11 +98,10 @@ fn blank_parts(alloc: Memory, config: &Config) -> Result<BlankParts, AllocError>
 }
 
 impl Heap {
-    /// A heap of this configuration: all pages unused, all registers and globals null, no
-    /// births, all threads crossed and running, the collector idle.
+    /// Makes a heap of this configuration: all pages unused, all registers and globals null, no births, all threads
+    /// crossed and running, the collector idle.
     ///
-    /// Answers the first field that is out of its range, where there is one, else `Memory`
-    /// where memory was refused.
+    /// Fails with the first field that is out of its range, if there is one, else with `Memory` if out of memory.
     pub fn new(alloc: Memory, config: Config) -> Result<Heap, NewFault>
         ensures { Makes config result }
     {
@@ -115,7 +114,7 @@ impl Heap {
         }
     }
 
-    /// The heap of these parts.
+    /// Returns the heap of these parts.
     #[tactic(auto, unfolding(model::specs::First::first_heap))]
     fn first(config: Config, parts: BlankParts) -> Heap
         requires ranged { IsRanged config }

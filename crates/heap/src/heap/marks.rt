@@ -1,6 +1,6 @@
-//! Words are resolved, and what the running mark has marked (the paper's Mark phase).
+//! Resolving words, and the bits of the running mark.
 
-ghost use Rattle.std.specs.Prelude.{◌≡◌, false};
+ghost use Rattle.std.specs.Prelude.{◌≡◌, is_some, false};
 ghost use Rattle.model.specs.Bits.{bit_at, with_bit};
 ghost use Rattle.model.specs.Marks.{entry_at, resolve, marked_word};
 
@@ -10,14 +10,14 @@ use model::Forwarding;
 use page::Store;
 use refword::{Addr, Word};
 
-/// Whether the bit of an address is set.
+/// Returns whether the bit of an address is set.
 pub(crate) fn bit_at(rows: &Rows, store: &Store, address: Addr) -> bool
     ensures { result ≡ bit_at rows.now store.now.words address }
 {
     rows.bit_on(store.page_of(address), store.offset_of(address))
 }
 
-/// Sets or clears the bit of an address, if its page has a row.
+/// Sets or clears the bit of an address, if its page has a bitmap.
 pub(crate) fn put_bit(rows: &mut Rows, store: &Store, address: Addr, bit: bool)
     ensures { rows.new ≡ with_bit rows.old store.now.words address bit }
 {
@@ -25,7 +25,7 @@ pub(crate) fn put_bit(rows: &mut Rows, store: &Store, address: Addr, bit: bool)
     rows.put(index, store.offset_of(address) as usize, bit);
 }
 
-/// The same of rows with an index.
+/// The same for bitmaps with an index.
 pub(crate) fn put_indexed_bit(rows: &mut IndexedRows, store: &Store, address: Addr, bit: bool)
     ensures { rows.new ≡ with_bit rows.old store.now.words address bit }
 {
@@ -33,8 +33,7 @@ pub(crate) fn put_indexed_bit(rows: &mut IndexedRows, store: &Store, address: Ad
     rows.put(index, store.offset_of(address) as usize, bit);
 }
 
-/// Clears the bit of an address, if its page has a row. Where no bit is set, that is all that is looked
-/// at.
+/// Clears the bit of an address, if its page has a bitmap. If no bit is set, nothing else is read.
 #[inline(always)]
 #[tactic(auto, using(crate::proofs::Marking::all_clear))]
 pub(crate) fn clear_indexed_bit(rows: &mut IndexedRows, store: &Store, address: Addr)
@@ -47,8 +46,8 @@ pub(crate) fn clear_indexed_bit(rows: &mut IndexedRows, store: &Store, address: 
 }
 
 impl Heap {
-    /// The entry of the forwarding table for the object of an address, if it has one: found by one bit
-    /// and one rank of its page's row.
+    /// Returns the entry of the forwarding table for the object of an address, if it has one: found by one bit and
+    /// one rank of its page's bitmap.
     #[tactic(auto, unfolding(model::specs::Marks::entry_at))]
     pub fn entry_at(&self, address: Addr) -> Option<Forwarding>
         ensures { result ≡ entry_at self.now address }
@@ -57,7 +56,17 @@ impl Heap {
         self.sides.entry_at(page, offset)
     }
 
-    /// Where the object of an address is now (the paper's Relocate phase).
+    /// Returns whether the object of an address has an entry in a forwarding table: found by one bit.
+    #[inline(always)]
+    #[tactic(auto, unfolding(model::specs::Marks::entry_at))]
+    pub fn has_entry(&self, address: Addr) -> bool
+        ensures { result ≡ is_some (entry_at self.now address) }
+    {
+        let (page, offset) = (self.store.page_of(address), self.store.offset_of(address));
+        self.sides.has_entry(page, offset)
+    }
+
+    /// Returns where the object of an address is now.
     #[tactic(auto, unfolding(model::specs::Marks::resolve))]
     pub fn resolve(&self, address: Addr) -> Addr
         ensures { result ≡ resolve self.now address }
@@ -68,8 +77,8 @@ impl Heap {
         }
     }
 
-    /// The word that marking leaves: it names the object where it is now, and is marked through
-    /// (the paper's Remap phase); null stays null.
+    /// Returns the word that marking leaves: it names the object where it is now, and is marked through; null stays
+    /// null.
     #[tactic(auto, unfolding(model::specs::Marks::marked_word))]
     pub fn marked_word(&self, word: Word) -> Word
         ensures { result ≡ marked_word self.now word }

@@ -1,4 +1,4 @@
-//! Memory of pages that open: their words, and a row of each kind.
+//! Memory of pages that open: their words, and a bitmap of each kind.
 
 ghost use Rattle.std.specs.Prelude.{◌≡◌, ◌-◌, ◌==◌, false, replicate, slice_set, if◌then◌else◌, IfOk};
 ghost use Rattle.heap.specs.Opening.{AreClear, IsBlank};
@@ -8,8 +8,7 @@ use model::Buffer;
 use page::Frame;
 use std::alloc::{AllocError, Global};
 
-/// The rows of one page. A page that opens gets a bit for each of its words in each of them, all
-/// clear.
+/// The bitmaps of one page. When a page opens, each of them has a clear bit for each of its words.
 #[derive(Drop)]
 pub struct PageRows {
     pub(crate) starts: Row,
@@ -19,7 +18,7 @@ pub struct PageRows {
 }
 
 impl PageRows {
-    /// Rows of so many bits, all clear. Fails only by memory.
+    /// Returns bitmaps of `words` bits, all clear. Fails only if out of memory.
     pub(crate) fn new(alloc: Global, words: u32) -> Result<PageRows, AllocError>
         ensures { IfOk result (AreClear words) }
     {
@@ -31,7 +30,7 @@ impl PageRows {
         })
     }
 
-    /// Empty rows, for where no page opens. They take no memory.
+    /// Returns empty bitmaps, for when no page opens. They take no memory.
     pub(crate) fn empty(alloc: Global) -> PageRows {
         PageRows {
             starts: Row::empty(alloc),
@@ -49,7 +48,7 @@ pub struct PageMemory {
     pub(crate) rows: PageRows,
 }
 
-/// The page that a buffer is the first of gets its row.
+/// Gives a page its bitmap, if a buffer is the first on the page.
 pub(crate) fn open_row(rows: &mut Rows, buffer: Buffer, row: Row)
     ensures { rows.new ≡ (if buffer.next == 0 then slice_set rows.old (buffer.page - 1) row else rows.old) }
 {
@@ -58,7 +57,7 @@ pub(crate) fn open_row(rows: &mut Rows, buffer: Buffer, row: Row)
     }
 }
 
-/// The same of rows with an index.
+/// The same for bitmaps with an index.
 pub(crate) fn open_indexed_row(rows: &mut IndexedRows, buffer: Buffer, row: Row)
     ensures { rows.new ≡ (if buffer.next == 0 then slice_set rows.old (buffer.page - 1) row else rows.old) }
 {

@@ -14,7 +14,7 @@ use crate::heap::edits::RawEdits;
 use model::{Place, Refusal};
 use refword::{Addr, Word};
 
-/// The reference that 64 bits in memory are; bits that are no word's count as null.
+/// Returns the reference that 64 bits in memory are; bits that are no reference count as null.
 pub fn read_reference(bits: u64) -> Word
     ensures { result ≡ read_reference bits }
 {
@@ -25,8 +25,8 @@ pub fn read_reference(bits: u64) -> Word
 }
 
 impl Heap {
-    /// How many words after the address of an object a reference of it stands, by the reference's
-    /// number from 0; none where the object has no such reference.
+    /// Returns how many words after the address of an object a reference of it is, by the reference's number from 0,
+    /// or `None` if the object has no such reference.
     #[inline(always)]
     #[tactic(auto, unfolding(model::specs::References::field_at))]
     pub fn field_behind(&self, address: Addr, index: u32) -> Option<u64>
@@ -41,8 +41,8 @@ impl Heap {
         Some(1 + u64::from(index))
     }
 
-    /// Where a reference of the object at an address stands, by the reference's number from 0;
-    /// none where the object has no such reference.
+    /// Returns the address of a reference of the object at an address, by the reference's number from 0, or `None` if
+    /// the object has no such reference.
     pub fn field_at(&self, address: Addr, index: u32) -> Option<u64>
         ensures value { result ≡ field_at self.now address index }
         ensures few { IfSome result (λ _. index < 2 ^ 16) }
@@ -51,7 +51,7 @@ impl Heap {
         Some(address.number() + ahead)
     }
 
-    /// The word in a global, by its number from 0; null where there is no such global.
+    /// Returns the word in a global, by its number from 0, or null if there is no such global.
     #[inline(always)]
     #[tactic(auto, unfolding(model::specs::References::global_of))]
     pub fn global(&self, number: u32) -> Word
@@ -63,7 +63,7 @@ impl Heap {
         }
     }
 
-    /// The bits at the place of a load; none where its page has no memory.
+    /// Returns the bits at the place of a load, or `None` if its page has no memory.
     pub fn bits_at(&self, place: Place) -> Option<u64>
         ensures { result ≡ bits_at self.now place }
     {
@@ -77,8 +77,8 @@ impl Heap {
 
     /// Stores a register's word in a reference of an object, by the reference's number from 0.
     ///
-    /// Refused as `usable` is for the object; `BadIndex` where it has no such reference; as
-    /// `usable_or_null` is for the source.
+    /// Fails as `usable` does for the object; with `BadIndex` if it has no such reference; as `usable_or_null` does
+    /// for the source.
     #[inline(always)]
     #[tactic(auto, unfolding(model::specs::References::store_outcome))]
     pub fn store_row(
@@ -101,8 +101,7 @@ impl Heap {
         Ok(())
     }
 
-    /// Stores a register's word in a global, by the global's number from 0. Refused as
-    /// `usable_or_null` is.
+    /// Stores a register's word in a global, by the global's number from 0. Fails as `usable_or_null` does.
     #[inline(always)]
     #[tactic(auto, unfolding(model::specs::References::store_global_outcome))]
     pub fn store_global_row(

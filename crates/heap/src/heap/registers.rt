@@ -15,8 +15,7 @@ use model::{PageState, Phase, Refusal};
 use refword::{Addr, Word};
 
 impl Heap {
-    /// The word in a register, null where there is no such register. Threads and registers count
-    /// from 0.
+    /// Returns the word in a register, or null if there is no such register. Threads and registers count from 0.
     #[inline(always)]
     #[tactic(auto, unfolding(model::specs::Registers::register_of))]
     pub fn register(&self, thread: u32, register: u32) -> Word
@@ -25,9 +24,9 @@ impl Heap {
         self.threads.register(thread, register)
     }
 
-    /// Whether a thread, by its number from 0, may use an address: not on a protected page, unless
-    /// the thread has still to cross the checkpoint at which pages are being protected.
-    /// Refused as `Stall` where it has crossed that checkpoint, and in other phases as `Stale`.
+    /// Tests whether a thread, by its number from 0, may use an address: one on no protected page, or any one while
+    /// the thread has still to cross the checkpoint at which pages are being protected. Fails with `Stall` if it has
+    /// crossed that checkpoint, and with `Stale` in other phases.
     #[inline(always)]
     pub fn let_through(&self, thread: u32, address: Addr) -> Result<(), Refusal>
         ensures { result ≡ let_through self.now thread address }
@@ -38,7 +37,7 @@ impl Heap {
         self.let_through_by_record(thread, address)
     }
 
-    /// The same, found by the record of the page.
+    /// The same, by the record of the page.
     #[cold]
     #[inline(never)]
     #[tactic(auto, unfolding(model::specs::Registers::let_through))]
@@ -63,11 +62,10 @@ impl Heap {
         }
     }
 
-    /// The address in a register that names an object and may be used. Threads and registers count
-    /// from 0.
+    /// Returns the address in a register that names an object and may be used. Threads and registers count from 0.
     ///
-    /// Refused where it is null (`Null`); on a protected page `Stall`, where pages are being
-    /// protected and the thread has crossed, and in other phases `Stale`.
+    /// Fails with `Null` if the register is null; on a protected page with `Stall` if pages are being protected and
+    /// the thread has crossed, and with `Stale` in other phases.
     #[inline(always)]
     #[tactic(auto, unfolding(model::specs::Registers::usable))]
     pub fn usable(&self, thread: u32, register: u32) -> Result<Addr, Refusal>
@@ -80,8 +78,7 @@ impl Heap {
         Ok(address)
     }
 
-    /// The address in a register that may be used, or none where it is null. Else refused as
-    /// `usable` is.
+    /// Returns the address in a register that may be used, or `None` if it is null. Else fails as `usable` does.
     #[inline(always)]
     #[tactic(auto, unfolding(model::specs::Registers::usable_or_null))]
     pub fn usable_or_null(&self, thread: u32, register: u32) -> Result<Option<Addr>, Refusal>
@@ -94,8 +91,8 @@ impl Heap {
         Ok(Some(address))
     }
 
-    /// Whether two registers name the same object, or both none; their NMT bits don't count.
-    /// Refused as `usable_or_null` is.
+    /// Returns whether two registers name the same object, or are both null; their NMT bits don't count. Fails as
+    /// `usable_or_null` does.
     #[inline(always)]
     #[tactic(auto, unfolding(model::specs::Registers::same_outcome))]
     pub fn same_row(&self, thread: u32, left: u32, right: u32) -> Result<bool, Refusal>
@@ -107,7 +104,7 @@ impl Heap {
         Ok(left == right)
     }
 
-    /// Whether a register is null. Refuses nothing.
+    /// Returns whether a register is null. Never fails.
     #[inline(always)]
     #[tactic(auto, unfolding(model::specs::Registers::is_null_outcome))]
     pub fn is_null_row(&self, thread: u32, register: u32) -> bool
@@ -117,7 +114,7 @@ impl Heap {
         self.register(thread, register).is_null()
     }
 
-    /// A register gets another one's word. Refuses nothing.
+    /// Copies a register's word to another register. Never fails.
     #[inline(always)]
     #[tactic(auto, unfolding(model::specs::Registers::copy_register_outcome))]
     pub fn copy_register_row(&mut self, thread: u32, target: u32, source: u32)
@@ -128,7 +125,7 @@ impl Heap {
         self.set_register(thread, target, word);
     }
 
-    /// A register becomes null. Refuses nothing.
+    /// Makes a register null. Never fails.
     #[inline(always)]
     #[tactic(auto, unfolding(model::specs::Registers::clear_register_outcome))]
     pub fn clear_register_row(&mut self, thread: u32, target: u32)

@@ -1,7 +1,7 @@
-//! Raw edits of a heap that move objects (the paper's Relocate phase): targets, side arrays, pages
-//! that are protected, copies, and pages that give their memory up.
+//! Raw edits of a heap that relocate objects: targets, forwarding tables, pages that are protected, copies, and pages
+//! that release their memory.
 //!
-//! They are for the crate that does rows of moving. Pages count from 1.
+//! They are for the crate that implements the steps of relocation. Pages count from 1.
 
 ghost use Rattle.std.specs.Prelude.{◌≡◌, ◌-◌, ◌<◌, ◌^◌, false, slice_set, IfOk};
 ghost use Rattle.model.specs.Holding.{AreRising, GoesToPage};
@@ -23,8 +23,8 @@ use refword::Addr;
 use std::alloc::AllocError;
 
 impl Heap {
-    /// How many words the object at an address has: 1 to 2,047. One that can't be read counts as its
-    /// header alone.
+    /// Returns how many words the object at an address has: 1 to 2,047. One that can't be read counts as its header
+    /// alone.
     #[tactic(auto, unfolding(model::specs::Plans::object_words))]
     pub fn object_words(&self, address: Addr) -> u32
         ensures value { result ≡ object_words self.now address }
@@ -36,8 +36,8 @@ impl Heap {
         }
     }
 
-    /// Memory for a page that is to open. Its words may have been kept of a page that gave them up. Fails
-    /// only by memory.
+    /// Returns memory for a page that is to open. Its words may be kept from a page that released them. Fails only if
+    /// out of memory.
     pub fn raw_blank(&mut self) -> Result<PageMemory, AllocError>
         ensures value { IfOk result (IsBlank self.old.store.words) }
         ensures stays { self.new ≡ self.old }
@@ -47,8 +47,8 @@ impl Heap {
         Ok(PageMemory { frame, rows })
     }
 
-    /// Opens a page for objects that move, of which all words are given out, to nobody. It gets this memory.
-    /// It says why there is no room for one, where there is none.
+    /// Opens a target with this memory: a page for objects that move, of which all words are given out, to no thread.
+    /// Fails with the reason if there is no space for one.
     #[tactic(auto, unfolding(model::specs::Protections::with_target))]
     pub fn raw_open_target(&mut self, memory: PageMemory) -> Result<Buffer, Room>
         requires { IsBlank self.old.store.words memory }
@@ -66,7 +66,7 @@ impl Heap {
         Ok(buffer)
     }
 
-    /// Gives a page another side array, if it has a record.
+    /// Replaces the forwarding table of a page, if the page has a record.
     pub fn raw_set_side(&mut self, page: u32, side: Side)
         requires rising { AreRising self.old.config.words 0 side }
         requires places { Each side (GoesToPage self.old.config) }
@@ -75,8 +75,7 @@ impl Heap {
         self.sides.put(page.saturating_sub(1) as usize, side);
     }
 
-    /// Protects closed pages, each named once; all threads have still to cross (the
-    /// paper's Relocate phase).
+    /// Protects closed pages, each named once; then all threads have still to cross.
     #[tactic(auto, unfolding(crate::specs::Relocating::start_protection))]
     pub fn raw_start_protection(&mut self, pages: &[u32])
         requires idle { self.old.phase ≡ Idle }
@@ -89,21 +88,28 @@ impl Heap {
         self.phase = Phase::ProtectCrossing;
     }
 
-    /// How many pages' memory is kept of pages that gave it up, for the next pages that are opened: at
-    /// most as many as frames are free.
+    /// Allocates memory for one more page and keeps it, cleared, for a page that opens later. Fails only if out of
+    /// memory. Nothing else changes.
+    pub fn prepare_frame(&mut self) -> Result<(), AllocError>
+        ensures { self.new ≡ self.old }
+    {
+        self.store.prepare_frame()
+    }
+
+    /// Returns how many pages' memory is kept for the next pages that open: from pages that released it, and
+    /// prepared.
     pub fn kept_frames(&self) -> usize {
         self.store.kept_frames()
     }
 
-    /// Gives memory of pages that gave it up back to the allocator, but for that of so many pages.
-    /// Nothing else changes.
+    /// Returns memory of released pages to the allocator, except that of `most` pages. Nothing else changes.
     pub fn trim(&mut self, most: usize)
         ensures { self.new ≡ self.old }
     {
         self.store.trim(most);
     }
 
-    /// A page that is being emptied gives its memory up.
+    /// Releases the memory of a page that is being emptied.
     pub fn raw_release_page(&mut self, page: u32)
         requires { state_at self.old.store page ≡ From }
         ensures { self.new ≡ record self.old { store = with_released self.old.store page } }

@@ -1,5 +1,4 @@
-//! Runs of entries of a page whose objects are copied (the paper's Relocate phase; that a run is
-//! copied at once is ours).
+//! Runs of entries of a page, whose objects are copied at once.
 
 ghost use Rattle.std.specs.Prelude.{◌≡◌, ◌+◌, ◌<◌, ◌≤◌, ◌^◌, length, slice_get};
 ghost use Rattle.model.specs.Bits.{of_page};
@@ -14,7 +13,7 @@ use markbits::Rows;
 use page::{PieceGate, Store};
 use std::thread::Threads;
 
-/// Notes that the object of an entry of a page is copied, where there is one that wasn't.
+/// Notes that the object of an entry of a page is copied, if there is such an entry and it is uncopied.
 #[inline(always)]
 #[tactic(auto, using(crate::proofs::Runs::started, crate::proofs::Runs::none_started))]
 fn note_copy(starts: &mut Rows, sides: &mut Sides, store: &Store, page: u64, entry: u32)
@@ -26,7 +25,7 @@ fn note_copy(starts: &mut Rows, sides: &mut Sides, store: &Store, page: u64, ent
     }
 }
 
-/// The same of so many entries from a number on.
+/// The same for `count` entries from a number on.
 #[tactic(auto, using(crate::proofs::Runs::noted_all))]
 fn note_each(starts: &mut Rows, sides: &mut Sides, store: &Store, page: u64, first: u32, count: u32)
     requires { first + count < 2 ^ 32 }
@@ -37,7 +36,7 @@ fn note_each(starts: &mut Rows, sides: &mut Sides, store: &Store, page: u64, fir
     }
 }
 
-/// The same; and it is kept where the last of them lies, after which the next one is looked for.
+/// The same; and the place of the last entry is kept, after which the next one is looked up.
 fn note_copies(
     starts: &mut Rows,
     sides: &mut Sides,
@@ -54,9 +53,8 @@ fn note_copies(
 }
 
 impl Heap {
-    /// Copies the objects of a run, so many entries of a page from a number on, which go
-    /// to one target, and notes that they are copied (the paper's Relocate phase). Those that were
-    /// copied before aren't written. It takes no memory.
+    /// Copies the objects of a run, `count` entries of a page from number `first` on, which go to one target, and
+    /// notes that they are copied. Those that were copied before aren't written. It takes no memory.
     pub fn raw_copy_run(&mut self, page: u64, target: u64, first: u32, count: u32)
         requires within { first + count ≤ length (of_page self.old.sides page) }
         requires together { GoTo self.old.store.words target (of_page self.old.sides page) first count }
@@ -88,9 +86,9 @@ impl Heap {
         );
     }
 
-    /// The same, by halves on threads: the run is cut to a depth, above 4 counts as 4, and the gate
-    /// is told of each piece before it is copied. Runs of a page count from 0. It waits for the
-    /// threads, and takes no memory: where one can't be started, its piece is copied afterwards.
+    /// The same, by halves on threads: the run is cut to a depth, above 4 counts as 4, and the gate is called for
+    /// each piece before it is copied. Runs of a page count from 0. It waits for the threads, and takes no memory: if
+    /// a thread can't be started, its piece is copied afterwards.
     pub fn raw_copy_run_by<R: Threads + Sync, G: PieceGate + Sync>(
         &mut self,
         rt: &R,

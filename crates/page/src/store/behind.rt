@@ -1,4 +1,4 @@
-//! Words after an address. Where its page is usable, one look finds the page's frame; else its record is asked.
+//! Words at a distance from an address. One look-up finds the frame of a usable page; else the page's record is read.
 
 ghost use Rattle.std.specs.Prelude.{◌≡◌, ◌+◌, ◌^◌, ◌<◌};
 ghost use Rattle.model.specs.Stores.{with_word, word_at};
@@ -7,7 +7,7 @@ use crate::store::Store;
 use refword::Addr;
 
 impl Store {
-    /// The first word of an object at an address, if its page has memory.
+    /// Returns the first word of an object at an address, if its page has memory.
     #[inline(always)]
     #[tactic(auto, using(crate::proofs::Usable::first_of))]
     pub fn first_word(&self, address: Addr) -> Option<u64>
@@ -21,7 +21,7 @@ impl Store {
         self.first_word_by_record(address)
     }
 
-    /// The same, found by the record of the page.
+    /// Returns the same by the page's record.
     #[cold]
     #[inline(never)]
     #[tactic(auto, unfolding(model::specs::Stores::word_at, model::specs::Stores::spot_of))]
@@ -32,8 +32,8 @@ impl Store {
         self.word_in(frame, self.offset_of(address) as usize)
     }
 
-    /// The word less than 2^17 words after an address, if it is on a page that has memory. Where
-    /// that is the page of the address, no other is looked up.
+    /// Returns the word `ahead` words, less than 2^17, after an address, if it is on a page that has memory. If it is
+    /// on the address's page, no other page is looked up.
     #[inline(always)]
     pub fn word_behind(&self, address: Addr, ahead: u64) -> Option<u64>
         requires { ahead < 2 ^ 17 }
@@ -47,7 +47,7 @@ impl Store {
         self.word_behind_by_record(address, ahead)
     }
 
-    /// The same, found by the record of the page.
+    /// Returns the same by the page's record.
     #[cold]
     #[inline(never)]
     #[tactic(auto, unfolding(model::specs::Stores::word_at), using(crate::proofs::Behind::spot_behind))]
@@ -63,8 +63,8 @@ impl Store {
         self.word_in(frame, offset as usize)
     }
 
-    /// Writes the word less than 2^17 words after an address, if it is on a page that has memory.
-    /// Where that is the page of the address, no other is looked up.
+    /// Writes the word `ahead` words, less than 2^17, after an address, if it is on a page that has memory. If it is
+    /// on the address's page, no other page is looked up.
     #[inline(always)]
     pub fn set_word_behind(&mut self, address: Addr, ahead: u64, value: u64)
         requires { ahead < 2 ^ 17 }
@@ -78,7 +78,7 @@ impl Store {
         self.set_word_behind_by_record(address, ahead, value);
     }
 
-    /// The same, found by the record of the page.
+    /// Writes the same by the page's record.
     #[cold]
     #[inline(never)]
     #[tactic(auto, unfolding(model::specs::Stores::with_word, model::specs::Stores::with_words, model::specs::Stores::spot_of), using(crate::proofs::Behind::spot_behind))]

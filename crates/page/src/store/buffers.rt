@@ -1,4 +1,4 @@
-//! Buffers: the words that a thread takes to put objects in.
+//! Allocation buffers: the words that a thread takes to allocate objects in.
 
 ghost use Rattle.std.specs.Prelude.{◌≡◌, ◌≤◌, ◌<◌, ◌+◌, ◌-◌, length, slice_get, slice_range};
 ghost use Rattle.std.specs.Prelude.{IfOk, IfSome, count_by, is_none, Some, None, Err, true, ℕ, replicate};
@@ -16,7 +16,7 @@ use model::{Buffer, Page, PageState, Room};
 use std::alloc::AllocError;
 
 impl Store {
-    /// Lends the free rest of a buffer that lies in an open page, to be written.
+    /// Lends the free rest of a buffer that lies in an open page, for writing.
     #[inline(always)]
     pub fn part_mut(&mut self, buffer: &Buffer) -> &mut [u64]
         requires { LiesIn self.old buffer.now }
@@ -73,7 +73,7 @@ impl Store {
         self.frames.place(frame, memory);
     }
 
-    /// The index of the lowest open page with room for `n` words.
+    /// Returns the index of the lowest open page with space for `n` words.
     fn page_with_room(&self, n: u32) -> Option<usize>
         requires { 0 < n }
         ensures first { result ≡ page_with_room self.now.words n self.now.pages }
@@ -84,7 +84,7 @@ impl Store {
         self.rooms.first_at_least(n)
     }
 
-    /// Whether a buffer of `n` words would be the first of its page: so it is where no open page has room.
+    /// Returns whether a buffer of `n` words would be the first of its page, which it is if no open page has space.
     #[tactic(auto, unfolding(crate::specs::Records::begins_page))]
     pub fn begins_page(&self, n: u32) -> bool
         requires { 0 < n }
@@ -96,7 +96,7 @@ impl Store {
         }
     }
 
-    /// The number, from 0, of the lowest free frame.
+    /// Returns the number, from 0, of the lowest free frame.
     fn free_frame(&self) -> Option<usize>
         ensures first { result ≡ free_frame self.now.owners }
         ensures there { IfSome result (λ f. f < length self.now.owners) }
@@ -106,7 +106,7 @@ impl Store {
         self.spare.first_at_least(1)
     }
 
-    /// The index of the lowest unused page.
+    /// Returns the index of the lowest unused page.
     fn unused_page(&self) -> Option<usize>
         requires { 0 < count_by is_none self.now.owners }
         ensures first { result ≡ unused_page self.now.count self.now.pages }
@@ -116,13 +116,12 @@ impl Store {
         self.unused.first_at_least(1)
     }
 
-    /// A buffer of `n` words: in the lowest open page that has room, else in the lowest unused
-    /// page, opened on the lowest free frame. `n` is 1 to the words of a page. It finds them
-    /// in some 14 steps at most, as many as the number of records has binary digits; where it opens
-    /// a page it also takes the page's memory, and writes its words.
+    /// Takes a buffer of `n` words, 1 to the words of a page: in the lowest open page that has space, else in the
+    /// lowest unused page, opened on the lowest free frame. The search takes one step for each binary digit of the
+    /// number of records. A page that is opened also gets memory, whose words are cleared.
     ///
-    /// Answers `NoFrames` where no frame is free, else `NoPages` where no page is unused, else
-    /// `NoMemory` where memory was refused; the store is then as it was.
+    /// Fails with `NoFrames` if no frame is free, else with `NoPages` if no page is unused, else with `NoMemory` if
+    /// out of memory; the store is then unchanged.
     pub fn take(&mut self, n: u32) -> Result<Buffer, Room>
         requires low { 0 < n }
         requires high { n ≤ self.old.words }
@@ -133,7 +132,7 @@ impl Store {
         self.take_lowest(n)
     }
 
-    /// What `take` does.
+    /// Does what `take` does.
     #[tactic(auto, unfolding(model::specs::Stores::take_buffer))]
     fn take_lowest(&mut self, n: u32) -> Result<Buffer, Room>
         requires low { 0 < n }
@@ -146,7 +145,8 @@ impl Store {
         }
     }
 
-    /// The number of the lowest free frame, and the index of the lowest unused page, where there are both.
+    /// Returns the number of the lowest free frame and the index of the lowest unused page. Fails if there aren't
+    /// both.
     fn free_room(&self) -> Result<(usize, usize), Room>
         ensures none { (e : Room) → result ≡ Err e → (n : ℕ) → take_fresh self.now n (free_frame self.now.owners)
             (unused_page self.now.count self.now.pages) ≡ Err e }
@@ -166,7 +166,7 @@ impl Store {
         Ok((frame, index))
     }
 
-    /// The first `n` words of a fresh page.
+    /// Takes the first `n` words of a fresh page.
     fn take_fresh(&mut self, n: u32) -> Result<Buffer, Room>
         requires { n ≤ self.old.words }
         ensures { TakesOrLacks self.old result self.new (take_fresh self.old n (free_frame self.old.owners)
@@ -180,7 +180,7 @@ impl Store {
         Ok(self.give(index, n))
     }
 
-    /// The first `n` words of a fresh page, which gets this memory.
+    /// Takes the first `n` words of a fresh page, which gets this memory.
     pub(super) fn take_fresh_on(&mut self, n: u32, memory: Frame) -> Result<Buffer, Room>
         requires size { n ≤ self.old.words }
         requires blank { memory ≡ replicate self.old.words 0 }
@@ -192,7 +192,7 @@ impl Store {
         Ok(self.give(index, n))
     }
 
-    /// Memory for a page: its words, all 0. It was kept, or is new. Fails only by memory.
+    /// Returns memory for a page: its words, all 0. It is kept memory, or new. Fails only if out of memory.
     pub fn blank(&mut self) -> Result<Frame, AllocError>
         ensures value { IfOk result (λ f. f ≡ replicate self.old.words 0) }
         ensures stays { self.new ≡ self.old }
@@ -200,13 +200,21 @@ impl Store {
         self.frames.blank(self.words)
     }
 
-    /// How many pages' memory is kept of frames that became free, for the next pages that are opened:
-    /// at most as many as frames are free.
+    /// Allocates memory for one more page, all 0, and keeps it for a page that is opened later. Fails only if out of
+    /// memory.
+    pub fn prepare_frame(&mut self) -> Result<(), AllocError>
+        ensures { self.new ≡ self.old }
+    {
+        self.frames.prepare(self.words)
+    }
+
+    /// Returns how many pages' memory is kept for the next pages that are opened: memory of frames that became free,
+    /// and prepared memory.
     pub fn kept_frames(&self) -> usize {
         self.frames.kept()
     }
 
-    /// Gives the memory of frames that became free back to the allocator, but for that of so many.
+    /// Frees kept memory, except that of up to `most` pages.
     pub fn trim(&mut self, most: usize)
         ensures { self.new ≡ self.old }
     {
@@ -220,7 +228,7 @@ impl Store {
         let _ = buffer;
     }
 
-    /// The frame of an open page.
+    /// Returns the frame of an open page.
     fn open_frame(&self, page: u32) -> usize
         requires { is_open (state_in (page_at self.now page)) ≡ true }
         ensures there { result < length self.now.frames }

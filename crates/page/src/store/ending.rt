@@ -8,10 +8,10 @@ use crate::store::Store;
 use model::{Page, PageState};
 
 impl Store {
-    /// Ends a mark for the page of an index, which is one less than the page's number and below the
-    /// number of records. An open page closes, unless a buffer of it is lent. A protected
-    /// page is unused again, and its frame is free, if it has one (the paper's Remap phase: its
-    /// number may be used again once no reference names it). Other pages stay as they are.
+    /// Ends a mark for the page of an index, which is one less than the page's number and below the number of
+    /// records. An open page closes, unless a buffer of it is lent. A protected page becomes unused, and its frame,
+    /// if it has one, free: its number may be used again, as no reference has it any more. Other pages stay as they
+    /// are.
     #[tactic(auto, using(crate::proofs::Retiring::kept_in), unfolding(crate::specs::Ending::with_mark_ended_at))]
     pub fn end_mark_at(&mut self, index: usize, lent: bool)
         requires { index < length self.old.pages }
@@ -28,7 +28,7 @@ impl Store {
         }
     }
 
-    /// How the page of an index is used; unused where it has no record.
+    /// Returns the state of the page of an index; Unused if it has no record.
     fn state_of(&self, index: usize) -> PageState
         ensures { result ≡ state_in (slice_get self.now.pages index) }
     {

@@ -1,5 +1,4 @@
-//! The words of pages are lent to be written, those of one page beside those of another that are
-//! read.
+//! Pages whose words are lent for writing, also while those of another page are read.
 
 ghost use Rattle.std.specs.Prelude.{◌≡◌, ◌≢◌, ◌<◌, length, Some, IfSome, true, is_some};
 ghost use Rattle.std.specs.Borrow.{sem};
@@ -9,22 +8,22 @@ ghost use Rattle.page.specs.Lending.{LendsPage, can_lend, has_frame};
 use crate::store::Store;
 
 impl Store {
-    /// Whether a page has memory.
+    /// Returns whether a page has memory.
     pub fn has_frame(&self, page: u64) -> bool
         ensures { result ≡ has_frame self.now page }
     {
         self.recorded_frame(page).is_some()
     }
 
-    /// Whether one page can be lent for reading and another for writing at once: they are not the
-    /// same, and both have memory.
+    /// Returns whether one page can be lent for reading while another is lent for writing: they differ, and both have
+    /// memory.
     pub fn can_lend(&self, from: u64, to: u64) -> bool
         ensures { result ≡ can_lend self.now from to }
     {
         from != to && self.has_frame(from) && self.has_frame(to)
     }
 
-    /// Lends the words of a page that has memory, to be written.
+    /// Lends the words of a page that has memory, for writing.
     pub fn words_mut(&mut self, page: u64) -> &mut [u64]
         requires { has_frame self.old page ≡ true }
         ensures value { words_at self.old page ≡ Some result.now }
@@ -35,7 +34,7 @@ impl Store {
         words.words_mut()
     }
 
-    /// Lends one page for reading and another for writing, which `can_lend` has tested.
+    /// Lends one page for reading and another for writing. `can_lend` must hold for them.
     pub fn lend_apart(&mut self, from: u64, to: u64) -> (&[u64], &mut [u64])
         requires { can_lend self.old from to ≡ true }
         ensures from { words_at self.old from ≡ Some result.0.now }
@@ -47,8 +46,8 @@ impl Store {
         self.frames.lend(source, target)
     }
 
-    /// Lends one page for reading and another for writing. `None` exactly where they are the same,
-    /// or one of them has no memory.
+    /// Lends one page for reading and another for writing. Returns `None` exactly if they are the same, or one of
+    /// them has no memory.
     pub fn lend(&mut self, from: u64, to: u64) -> Option<(&[u64], &mut [u64])>
         ensures none { is_some result ≡ can_lend self.old from to }
         ensures from { IfSome result (λ l. words_at self.old from ≡ Some l.0.now) }
@@ -60,7 +59,7 @@ impl Store {
         Some(self.lend_apart(from, to))
     }
 
-    /// The frame of a page that has memory.
+    /// Returns the frame of a page that has memory.
     fn memory(&self, page: u64) -> usize
         requires { has_frame self.now page ≡ true }
         ensures there { result < length self.now.frames }

@@ -1,5 +1,4 @@
-//! Targets are opened, and pages protected and released (the paper's Relocate phase; targets are
-//! ours).
+//! Opening targets, and protecting and releasing pages.
 
 ghost use Rattle.std.specs.Prelude.{◌≡◌, ◌-◌, ◌<◌, false, length, slice_get, count_by, IfOk, replicate};
 ghost use Rattle.model.specs.Moves.{set_gone_of, with_free, with_released};
@@ -15,14 +14,14 @@ use crate::frame::Frame;
 use crate::store::Store;
 use model::{Buffer, Page, PageState, Room};
 
-/// Whether a page is unused.
+/// Returns whether a page is unused.
 fn is_unused(page: &Page) -> bool
     ensures { result ≡ is_unused page.now.state }
 {
     matches!(page.state, PageState::Unused)
 }
 
-/// How many of some pages are unused.
+/// Returns how many of these pages are unused.
 fn unused_in(pages: &[Page]) -> usize
     ensures { result ≡ count_by (λ p. is_unused p.state) pages.now }
 {
@@ -30,11 +29,11 @@ fn unused_in(pages: &[Page]) -> usize
 }
 
 impl Store {
-    /// A fresh page as one buffer of all its words: the lowest unused page, opened on the lowest
-    /// free frame, which gets this memory.
+    /// Takes a fresh page as one buffer of all its words: the lowest unused page, opened on the lowest free frame,
+    /// which gets this memory.
     ///
-    /// Answers `NoFrames` where no frame is free, else `NoPages` where no page is unused; the
-    /// store is then as it was.
+    /// Fails with `NoFrames` if no frame is free, else with `NoPages` if no page is unused; the store is then
+    /// unchanged.
     #[tactic(auto, unfolding(model::specs::Protections::take_target), using(crate::proofs::Lying::target_by))]
     pub fn take_target(&mut self, memory: Frame) -> Result<Buffer, Room>
         requires { memory ≡ replicate self.old.words 0 }
@@ -45,8 +44,8 @@ impl Store {
         self.take_fresh_on(self.words, memory)
     }
 
-    /// How many pages are unused, those without a record too: 0 to the number of pages. It looks at
-    /// all records.
+    /// Returns how many pages are unused, including those without a record: 0 to the number of pages. It reads all
+    /// records.
     #[tactic(auto, unfolding(model::specs::Protections::unused_count))]
     pub fn unused_pages(&self) -> u32
         ensures { result ≡ unused_count self.now }
@@ -55,8 +54,8 @@ impl Store {
         unused_in(&self.pages) as u32 + (self.count - recorded as u32)
     }
 
-    /// Protects closed pages, by their numbers from 1, each named once: their live objects are to be
-    /// copied out (the paper's Relocate phase). No page was released before.
+    /// Protects closed pages, by their numbers from 1, each named once: their live objects are to be copied out. No
+    /// page may be Gone.
     pub fn protect(&mut self, pages: &[u32])
         requires closed { Each pages.now (λ n. state_at self.old n ≡ Closed) }
         requires once { has_twice pages.now ≡ false }
@@ -90,8 +89,8 @@ impl Store {
         self.usable[index + 1] = None;
     }
 
-    /// Releases a page that is being emptied, by its number from 1: its frame is free at once (the
-    /// paper's Relocate phase: memory is free before the references are corrected).
+    /// Releases a From page, by its number from 1: its frame is free at once, before references to the page are
+    /// corrected.
     pub fn release(&mut self, page: u32)
         requires { state_at self.old page ≡ From }
         ensures { self.new ≡ with_released self.old page }

@@ -1,5 +1,4 @@
-//! Objects of a page are copied to their places on another page (the paper's Relocate phase), a run
-//! of entries at once.
+//! Copying a run of a page's objects to their places on another page.
 
 ghost use Rattle.std.specs.Prelude.{◌≡◌, ◌+◌, ◌≤◌, length};
 ghost use Rattle.model.specs.declared.limits.TheConstants.{MOST_WORDS};
@@ -12,9 +11,9 @@ use pieces::{PieceGate, Source, copy_run, copy_run_by};
 use std::thread::Threads;
 
 impl Store {
-    /// Copies the objects of a run, so many entries of a page's side array from a number on, to
-    /// their places on a target. Where the target is the page itself, or one of them has no memory,
-    /// nothing is written. The cost is that of writing the words.
+    /// Copies the objects of a run, `count` entries of a page's forwarding table from number `first` on, to their
+    /// places on a target. Nothing is written if the target is the page itself, or one of them has no memory. The
+    /// cost is that of writing the words.
     #[tactic(auto, using(crate::proofs::Runs::run_unlent, crate::proofs::Runs::run_lent))]
     pub fn copy_entries(
         &mut self,
@@ -42,8 +41,8 @@ impl Store {
         copy_run(&source, first, count, part);
     }
 
-    /// The same, by halves on threads: runs are cut to a depth, above 4 counts as 4, and count from
-    /// 0. It waits for the threads.
+    /// Does what `copy_entries` does, by halves on threads: the run is halved to a depth (above 4 counts as 4). Runs
+    /// count from 0. It waits for the threads.
     #[tactic(auto, using(crate::proofs::Runs::run_unlent, crate::proofs::Runs::run_lent))]
     pub fn copy_entries_by<R: Threads + Sync, G: PieceGate + Sync>(
         &mut self,

@@ -1,4 +1,4 @@
-//! Words of pages that have memory and aren't protected, found by one look at the page.
+//! Words of pages that have memory and aren't protected, found by one look-up of the page.
 
 ghost use Rattle.std.specs.Prelude.{◌≡◌, ◌+◌, ◌/◌, ◌%◌, ◌^◌, ◌<◌, ◌≤◌, length, IfSome, Some, if◌then◌else◌};
 ghost use Rattle.model.specs.Stores.{with_word, word_at, words_at};
@@ -8,7 +8,7 @@ ghost use Rattle.page.specs.Usable.{usable_frame};
 use crate::store::Store;
 
 impl Store {
-    /// The frame of the page that a number is an address on, if the page has memory and isn't protected.
+    /// Returns the frame of the page of a number that is an address, if the page has memory and isn't protected.
     #[inline(always)]
     #[tactic(auto, using(crate::proofs::Usable::found))]
     pub fn usable_frame(&self, number: u64) -> Option<u32>
@@ -21,7 +21,7 @@ impl Store {
         }
     }
 
-    /// The same of a number on a page that has a record.
+    /// Returns the same for a number on a page that has a record.
     #[inline(always)]
     pub fn recorded_usable_frame(&self, number: u64) -> Option<u32>
         requires { number / self.now.words ≤ length self.now.pages }
@@ -31,8 +31,8 @@ impl Store {
         self.usable[self.size.page_of(number) as usize]
     }
 
-    /// The words of a usable page, by its frame and an address on it. They may also be `None` after the page was
-    /// lent beside another; `words` then finds them.
+    /// Returns the words of a usable page, by its frame and an address on it. May also return `None` after the page
+    /// was lent together with another; `words` then finds them.
     #[inline(always)]
     pub fn words_on(&self, frame: u32, number: u64) -> Option<&[u64]>
         requires { usable_frame self.now (number / self.now.words) ≡ Some frame }
@@ -41,7 +41,7 @@ impl Store {
         self.frames.words_at_once(frame as usize)
     }
 
-    /// The offset in its page of a number that is an address: below the words of a page.
+    /// Returns the offset in its page of a number that is an address: below the words of a page.
     #[inline(always)]
     pub fn offset_on(&self, number: u64) -> usize
         ensures { result ≡ number % self.now.words }
@@ -49,9 +49,9 @@ impl Store {
         self.size.offset_of(number) as usize
     }
 
-    /// The word less than 2^17 words after an address on a usable page, if it is on the same page. That is
-    /// found by the page's frame alone, so it may also be `None` after the page was lent beside another;
-    /// `word_behind` then finds it.
+    /// Returns the word `ahead` words, less than 2^17, after an address on a usable page, if it is on the same page.
+    /// It is found by the page's frame alone, so the result may also be `None` after the page was lent together with
+    /// another; `word_behind` then finds it.
     #[inline(always)]
     pub fn word_on(&self, frame: u32, number: u64, ahead: u64) -> Option<u64>
         requires usable { usable_frame self.now (number / self.now.words) ≡ Some frame }
@@ -62,9 +62,9 @@ impl Store {
         self.frames.word_at_once(frame as usize, offset as usize)
     }
 
-    /// Writes the word less than 2^17 words after an address on a usable page, if it is on the same page.
-    /// Returns whether it did. It may also be false after the page was lent beside another;
-    /// `set_word_behind` then writes it.
+    /// Writes the word `ahead` words, less than 2^17, after an address on a usable page, if it is on the same page.
+    /// Returns whether it did. May also return false after the page was lent together with another; `set_word_behind`
+    /// then writes it.
     #[inline(always)]
     pub fn set_word_on(&mut self, frame: u32, number: u64, ahead: u64, value: u64) -> bool
         requires usable { usable_frame self.old (number / self.old.words) ≡ Some frame }

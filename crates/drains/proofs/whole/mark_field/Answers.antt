@@ -1,8 +1,9 @@
-use Rattle.std.proofs.Common.{◌+◌, reverse, Some, sym, ap, ◌∙◌}
+use Rattle.std.proofs.Common.{◌+◌, ◌/◌, ◌%◌, ℕ, reverse, Some, sym, ap, ◌∙◌}
 use Rattle.model.specs.Scans.{reference_in}
 use Rattle.model.specs.Stores.{StoreState, word_at}
 use Rattle.drains.proofs.Blanks.{field_of_nothing, field_of_blank}
 use Rattle.drains.proofs.Waiting.{field_of_word, field_of_null, written_beside}
+use Rattle.drains.proofs.Written.{words_still}
 use Rattle.drains.proofs.whole.mark_field.Goals as goal
 
 pub returns-in_default-clause-field : goal.returns-in_default-clause-field
@@ -32,8 +33,20 @@ pub returns-in_default-addr-clause-waits : goal.returns-in_default-addr-clause-w
 returns-in_default-addr-clause-waits c = written_beside c.args.heap.now c.raw_set_word_behind.new.self c.args.address
     _ _ (reverse c.args.waiting.now.items) c.requires.waits c.raw_set_word_behind.ensures
 
-pub mark-requires : goal.mark-requires
-mark-requires c = written_beside c.args.heap.now c.raw_set_word_behind-2.new.self c.args.address _ _
+pub mark-requires-clause-page : goal.mark-requires-clause-page
+mark-requires-clause-page c =
+    c.page_of-page.ensures ∙ ap (λ (w : ℕ). c.resolve-target.result / w)
+    (words_still c.args.heap.now c.raw_set_word_behind-2.new.self c.memory-2.result.now _ _ c.memory-2.ensures
+    c.raw_set_word_behind-2.ensures)
+
+pub mark-requires-clause-offset : goal.mark-requires-clause-offset
+mark-requires-clause-offset c =
+    c.offset_of-offset.ensures ∙ ap (λ (w : ℕ). c.resolve-target.result % w)
+    (words_still c.args.heap.now c.raw_set_word_behind-2.new.self c.memory-3.result.now _ _ c.memory-3.ensures
+    c.raw_set_word_behind-2.ensures)
+
+pub mark-requires-clause-waits : goal.mark-requires-clause-waits
+mark-requires-clause-waits c = written_beside c.args.heap.now c.raw_set_word_behind-2.new.self c.args.address _ _
     (reverse c.args.waiting.now.items) c.requires.waits c.raw_set_word_behind-2.ensures
 
 pub returns-clause-field : goal.returns-clause-field

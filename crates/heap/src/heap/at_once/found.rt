@@ -1,5 +1,5 @@
-//! Steps on an object that was found: several of them with one look at the object. Of a heap in which the object that a
-//! register names lies whole on its page, neither its layout nor its page's end is tested again.
+//! Steps on an object that was found: several of them with one lookup of the object. In a heap in which each object
+//! that a register names lies completely on its page, neither its layout nor its page's end is tested again.
 
 ghost use Rattle.std.specs.Prelude.{◌≡◌, ◌≢◌, ◌+◌, ◌%◌, ◌^◌, ◌<◌, IfSome, Some, true};
 ghost use Rattle.model.specs.References.{read_reference};
@@ -15,7 +15,7 @@ use crate::heap::at_once::words::Spot;
 use layout::{Layout, layout_of};
 use refword::{Word, number_of_bits};
 
-/// An object that a thread may use: where it stands, and its layout.
+/// An object that a thread may use: its place and its layout.
 #[derive(Clone, Copy, Debug)]
 pub struct FoundObject {
     /// Its address, from 1 to 2^40 - 1.
@@ -27,8 +27,8 @@ pub struct FoundObject {
 }
 
 impl Heap {
-    /// The object that a register of a thread names, by their numbers from 0, if the thread runs, its barrier is closed,
-    /// and it may use the object.
+    /// Returns the object that a register of a thread names, by their numbers from 0, if the thread runs, its barrier
+    /// is closed, and it may use the object.
     #[inline(always)]
     pub fn find_object(&self, thread: u32, register: u32) -> Option<FoundObject>
         requires { AreWhole self.now }
@@ -47,7 +47,7 @@ impl Heap {
         })
     }
 
-    /// Where that object stands.
+    /// Returns the place of that object.
     #[inline(always)]
     fn find_spot(&self, thread: u32, register: u32) -> Option<Spot>
         requires { AreWhole self.now }
@@ -60,7 +60,7 @@ impl Heap {
         Some(Spot { address, frame })
     }
 
-    /// Whether a word is null, or on a page that has memory and isn't protected, as `is_free`.
+    /// Returns whether a word is null, or on a page that has memory and isn't protected, as `is_free` does.
     #[inline(always)]
     fn is_usable(&self, word: Word) -> bool
         requires { IfSome word (λ v. IsRecorded self.now.store v.0) }
@@ -72,7 +72,7 @@ impl Heap {
         self.recorded_frame(word.number()).is_some()
     }
 
-    /// The word in a register of a thread, by their numbers from 0, if it is null or may be used.
+    /// Returns the word in a register of a thread, by their numbers from 0, if it is null or may be used.
     #[inline(always)]
     fn find_source(&self, thread: u32, register: u32) -> Option<Word>
         requires { AreWhole self.now }
@@ -87,7 +87,7 @@ impl Heap {
         Some(word)
     }
 
-    /// The header of an object that was found, whose register a thread names.
+    /// Returns the header of an object that was found, which a register of the thread names.
     #[inline(always)]
     pub fn header_found(&self, found: FoundObject, thread: u32, register: u32) -> Option<u64>
         requires { FindsObject self.now thread register found }
@@ -97,7 +97,7 @@ impl Heap {
         Some(header)
     }
 
-    /// The word of these bits, if it is null, or no trap is due for it, as `quiet_word`.
+    /// Returns the word of these bits, if it is null, or no trap is due for it, as `quiet_word` does.
     #[inline(always)]
     fn find_quiet_word(&self, bits: u64) -> Option<Word>
         requires { IsRecorded self.now.store (bits % 2 ^ 63) }
@@ -115,7 +115,7 @@ impl Heap {
         Some(word)
     }
 
-    /// A word of an object that was found, so many words after its header.
+    /// Returns the word of an object that was found, `ahead` words after its header.
     #[inline(always)]
     fn word_of(&self, found: FoundObject, ahead: usize) -> Option<u64>
         requires frame { IsOnFrame self.now found.address found.frame }
@@ -128,7 +128,7 @@ impl Heap {
         Some(words[memory.offset_on(found.address) + ahead])
     }
 
-    /// Loads a reference of an object that was found into a register, as `load_at_once`.
+    /// Loads a reference of an object that was found into a register, as `load_at_once` does.
     #[inline(always)]
     pub fn load_found(
         &mut self,
@@ -160,7 +160,7 @@ impl Heap {
         true
     }
 
-    /// A data word of an object that was found, as `datum_at_once`.
+    /// Returns a data word of an object that was found, as `datum_at_once` does.
     #[inline(always)]
     pub fn datum_found(
         &self,
@@ -180,7 +180,7 @@ impl Heap {
         Some(value)
     }
 
-    /// Stores a register's word in a reference field of an object that was found, as `store_at_once`.
+    /// Stores a register's word in a reference field of an object that was found, as `store_at_once` does.
     #[inline(always)]
     pub fn store_found(
         &mut self,
@@ -209,7 +209,7 @@ impl Heap {
         self.set_word_on(&spot, 1 + u64::from(field), word.bits())
     }
 
-    /// Writes a data word of an object that was found, as `set_datum_at_once`.
+    /// Writes a data word of an object that was found, as `set_datum_at_once` does.
     #[inline(always)]
     pub fn set_datum_found(
         &mut self,

@@ -8,7 +8,7 @@ use crate::heap::Heap;
 use refword::Word;
 
 impl Heap {
-    /// The word of a global, by its number from 0, where a thread may load it into a register.
+    /// Returns the word of a global, by its number from 0, if a thread may load it into a register.
     #[inline(always)]
     fn global_at_once(&self, thread: u32, target: u32, global: u32) -> Option<Word>
         ensures { IfSome result (ReadsGlobal self.now thread target global) }
@@ -18,8 +18,8 @@ impl Heap {
         Some(global.word)
     }
 
-    /// Loads a global into a register, completely, if no test refuses it and no trap is due: it then does
-    /// what `LoadGlobal` and `Finish` do, and returns true. Else nothing is done.
+    /// Loads a global into a register, completely, if no test rejects it and no trap is due: it then does what
+    /// `LoadGlobal` and `Finish` do, and returns true. Else nothing is done.
     #[inline(always)]
     pub fn load_global_at_once(&mut self, thread: u32, target: u32, global: u32) -> bool
         ensures { MayLoadAtOnce result self.old thread (steps.LoadGlobal target global) self.new }

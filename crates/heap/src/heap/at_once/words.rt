@@ -1,4 +1,4 @@
-//! Words of objects on pages that have memory and aren't protected, found by one look at the page.
+//! Words of objects on pages that have memory and aren't protected, found by one lookup of the page.
 
 ghost use Rattle.std.specs.Prelude.{◌≡◌, ◌+◌, ◌^◌, ◌<◌, IfSome, Some, if◌then◌else◌};
 ghost use Rattle.model.specs.Data.{datum_at, layout_at};
@@ -22,7 +22,7 @@ pub(super) struct Spot {
 }
 
 impl Heap {
-    /// The frame of the page that a number is an address on, if the page has memory and isn't protected.
+    /// Returns the frame of the page that a number is an address on, if the page has memory and isn't protected.
     #[inline(always)]
     pub(crate) fn frame_at_once(&self, number: u64) -> Option<u32>
         ensures address { IfSome result (λ _. IsAddress number) }
@@ -32,7 +32,7 @@ impl Heap {
         self.store.usable_frame(number)
     }
 
-    /// The same of a number on a page that has a record.
+    /// The same for a number on a page that has a record.
     #[inline(always)]
     pub(super) fn recorded_frame(&self, number: u64) -> Option<u32>
         requires { IsRecorded self.now.store number }
@@ -43,8 +43,8 @@ impl Heap {
         self.store.recorded_usable_frame(number)
     }
 
-    /// The word of these bits, if it is null, or no trap is due for it, whatever thread loads it: it is on
-    /// a page that has memory and isn't protected, and isn't to be marked.
+    /// Returns the word of these bits, if it is null, or no trap is due for it, whichever thread loads it: it is on a
+    /// page that has memory and isn't protected, and needs no marking.
     #[inline(always)]
     pub(super) fn quiet_word(&self, bits: u64) -> Option<Word>
         ensures word { IfSome result (λ w. w ≡ read_reference bits) }
@@ -61,7 +61,7 @@ impl Heap {
         Some(word)
     }
 
-    /// The word less than 2^17 words after an object's address, if it is on the same page.
+    /// Returns the word less than 2^17 words after an object's address, if it is on the same page.
     #[inline(always)]
     pub(super) fn word_on(&self, spot: &Spot, ahead: u64) -> Option<u64>
         requires frame { IsOnFrame self.now spot.now.address spot.now.frame }
@@ -71,7 +71,7 @@ impl Heap {
         self.store.word_on(spot.frame, spot.address, ahead)
     }
 
-    /// The layout of an object.
+    /// Returns the layout of an object.
     #[inline(always)]
     fn layout_on(&self, spot: &Spot) -> Option<Layout>
         requires { IsOnFrame self.now spot.now.address spot.now.frame }
@@ -81,7 +81,7 @@ impl Heap {
         self.config.layouts.get(layout_of(header))
     }
 
-    /// How far after the address of an object a reference stands, by its number from 0.
+    /// Returns how many words after the address of an object a reference is, by its number from 0.
     #[inline(always)]
     pub(super) fn field_on(&self, spot: &Spot, index: u32) -> Option<u64>
         requires { IsOnFrame self.now spot.now.address spot.now.frame }
@@ -95,7 +95,7 @@ impl Heap {
         Some(1 + u64::from(index))
     }
 
-    /// How far after the address of an object a data word stands, by its number from 0.
+    /// Returns how many words after the address of an object a data word is, by its number from 0.
     #[inline(always)]
     pub(super) fn datum_on(&self, spot: &Spot, index: u32) -> Option<u64>
         requires { IsOnFrame self.now spot.now.address spot.now.frame }

@@ -1,12 +1,8 @@
-use Rattle.std.proofs.Common.{refl}
-use Rattle.managed.proofs.ManyData.{data_all, data_next}
+use Rattle.std.proofs.Common.{◌∙◌, refl}
+use Rattle.managed.proofs.OnePage.{page_written}
 use Rattle.managed.proofs.data.write_run.Goals as goal
 
-pub loop-index-preserved : goal.loop-index-preserved
-loop-index-preserved c = data_next c.args.heap.now c.loop-index.heap c.raw_set_word_behind.new.self c.args.address
-    c.args.ahead _ c.args.values.now c.loop-index.index _ c.loop-index-test.true c.loop-index.invariant refl
-    c.raw_set_word_behind.ensures
-
-pub returns : goal.returns
-returns c = data_all c.args.heap.now c.loop-index.heap _ c.loop-index.index c.args.values.now c.loop-index-test.false
-    c.loop-index.invariant
+pub returns-then-raw_set_words_behind : goal.returns-then-raw_set_words_behind
+returns-then-raw_set_words_behind c =
+    c.if-raw_set_words_behind.ensures.value ∙ page_written c.args.heap.now c.args.address c.args.ahead c.args.values.now
+    (c.if-raw_set_words_behind.ensures.within refl)

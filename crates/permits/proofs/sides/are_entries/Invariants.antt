@@ -2,7 +2,7 @@ use Rattle.std.proofs.Common.{◌≡◌, drop}
 use Rattle.permits.specs.Permits.{are_entries}
 use Rattle.permits.proofs.sides.are_entries.Given as goal
 
--- the entries that are left are as they have to be exactly where all are
+-- the entries that are left meet their conditions exactly if all do
 abbrev pub invariant-loop-index : goal.invariant-loop-index
 invariant-loop-index l =
     are_entries l.fn.heap.config l.low (drop l.index l.fn.side) ≡ are_entries l.fn.heap.config 0 l.fn.side

@@ -1,4 +1,4 @@
-use Rattle.std.proofs.Common.{sym, ap, subst, arith}
+use Rattle.std.proofs.Common.{ℕ, ◌<◌, ◌≤◌, sym, ap, subst, arith}
 use Rattle.model.specs.Holding.{AreRising}
 use Rattle.model.specs.States.{HeapState}
 use Rattle.model.proofs.Lists.{get_read}
@@ -15,3 +15,13 @@ settle_page-first-requires-clause-rising c =
     subst (λ w. AreRising w 0 c.replace-side.result) (sym (ap (λ (h : HeapState). h.config.words) k.heap))
     (subst (AreRising c.args.heap.now.config.words 0) (sym c.replace-side.ensures.value)
     (c.requires.rising i side (same_there c.loop-index.sides.items c.args.sides.now.items i side k.left at)))
+
+pub settle_page-first-requires-clause-high : goal.settle_page-first-requires-clause-high
+settle_page-first-requires-clause-high c i x at =
+    subst (λ (n : ℕ). x ≤ n) (sym (ap (λ (h : HeapState). h.store.count) c.loop-index.invariant.heap))
+    (c.requires.high i x at)
+
+pub settle_page-first-requires-clause-within : goal.settle_page-first-requires-clause-within
+settle_page-first-requires-clause-within c i x at =
+    subst (λ (n : ℕ). x.1 < n) (sym (ap (λ (h : HeapState). h.store.words) c.loop-index.invariant.heap))
+    (c.requires.within i x at)

@@ -1,4 +1,4 @@
--- A slot lends what it leads to: the block's own value is lent, and the slot follows it. Assumes `Logic`.
+-- A slot lends its target: the block's own value is borrowed, and the slot follows it. Assumes `Logic`.
 use Rattle.std.proofs.Common.{◌≡◌, ℕ, List, [], ◌∷◌, ◌++◌, refl, sym, subst}
 use seplogic.Ra.Ura.{Ura}
 use base.Fraction.{full_share}

@@ -1,8 +1,0 @@
--- Why the steps of a command stop.
-use Rattle.checked_runs.specs.declared.steps.Stop.{Stop}
-use Rattle.checked_runs.specs.declared.steps.Stop.TheVariants.{Memory, Faulty}
-
--- memory was refused: no verification found a fault
-abbrev pub IsWant : Stop → Type 0
-IsWant Memory = Unit {0}
-IsWant (Faulty fault) = ⊥

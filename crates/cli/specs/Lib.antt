@@ -1,0 +1,4 @@
+pub mod Asking
+pub mod Program
+pub mod Running
+pub mod Serving

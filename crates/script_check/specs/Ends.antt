@@ -1,0 +1,8 @@
+-- How a run ends in which the heap is verified.
+use Rattle.script_check.specs.declared.schedule.Checked.{Checked}
+use Rattle.script_check.specs.declared.schedule.Checked.TheVariants.{Sound, Faulty}
+
+-- no verification found a fault
+abbrev pub IsClean : Checked → Type 0
+IsClean (Sound count) = Unit {0}
+IsClean (Faulty fault) = ⊥

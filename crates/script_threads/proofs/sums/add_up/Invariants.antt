@@ -1,0 +1,12 @@
+use Rattle.std.proofs.Common.{◌≡◌, ◌≤◌, ◌*◌, ◌^◌, take}
+use Rattle.script_threads.specs.Settled.{births_in, data_in}
+use Rattle.script_threads.proofs.sums.add_up.Given as goal
+
+-- the sums of the entries so far, of which each adds 1 at most, and less than 2^64
+abbrev pub invariant-loop-index : goal.invariant-loop-index
+invariant-loop-index l = record {
+  births : l.births ≡ births_in (take l.index l.list.entries);
+  total : l.total ≡ data_in (take l.index l.list.entries);
+  few : l.births ≤ l.index;
+  small : l.total ≤ l.index * 2 ^ 64;
+}

@@ -1,0 +1,17 @@
+//! Runs of scripts in which each actor has a thread of the system, and what they print.
+#![tactic(auto)]
+
+mod collector;
+mod gate;
+mod mutator;
+mod run;
+mod running;
+mod scanner;
+mod scanning;
+mod sums;
+mod telling;
+
+pub use gate::{Gate, OpenGate};
+pub use running::{ThreadsFault, by_threads};
+pub use sums::{Sums, SumsLine, add_up};
+pub use telling::{tell_stray, tell_threads};

@@ -1,0 +1,117 @@
+//! Objects that nobody keeps, in the smallest heaps: these are collected as it goes, and are never full.
+//!
+//! | Frames | Pages | Words of a page | Kept |
+//! |---|---|---|---|
+//! | 1 | 1 | 16 | nothing |
+//! | 1 | 2 | 16 | nothing |
+//! | 2 | 2 | 16 | the last object |
+//! | 3 | 6 | 16 | the last object, and the first one, whose number is still there at the end |
+
+use anyhow::Result;
+use pauseless::{Config, Holding, Layout, Layouts, ManagedHeap, Policy};
+use std::alloc::Global;
+
+/// The program's one thread.
+const ME: u32 = 0;
+
+/// Registers: what is kept, and what isn't.
+const KEPT: u32 = 0;
+
+const LOST: u32 = 1;
+
+/// The words of a page.
+const WORDS: u32 = 16;
+
+/// A number that is kept.
+const NUMBER: u64 = 4711;
+
+/// A heap of so many frames and pages.
+fn new_heap(alloc: Global, frames: u32, pages: u32) -> Result<ManagedHeap> {
+    let layouts = Layouts::new(vec![in alloc; Layout { refs: 1, nums: 1 }]?);
+    let mut config = Config::new(WORDS, frames, layouts);
+    config.pages = pages;
+    Ok(ManagedHeap::new(alloc, config)?)
+}
+
+/// Makes so many objects that nobody keeps, not even in a register.
+fn waste_all(
+    alloc: Global,
+    mut heap: impl Holding + Drop,
+    policy: Policy,
+    count: u64,
+) -> Result<()> {
+    for _ in 0..count {
+        heap.make(alloc, policy, ME, LOST, 0)?;
+        heap.clear_register(ME, LOST)?;
+    }
+    Ok(())
+}
+
+/// Makes so many objects that nobody keeps, but for the last one.
+fn waste(alloc: Global, heap: &mut impl Holding, policy: Policy, count: u64) -> Result<()> {
+    for _ in 0..count {
+        heap.make(alloc, policy, ME, LOST, 0)?;
+    }
+    Ok(())
+}
+
+/// The same in a heap that is let go then.
+fn waste_last(
+    alloc: Global,
+    mut heap: impl Holding + Drop,
+    policy: Policy,
+    count: u64,
+) -> Result<()> {
+    waste(alloc, &mut heap, policy, count)
+}
+
+/// The same in a heap of one frame and so many pages, where not even the last one is kept.
+fn waste_in_one(alloc: Global, pages: u32, count: u64) -> Result<()> {
+    waste_all(
+        alloc,
+        new_heap(alloc, 1, pages)?,
+        Policy::usual(WORDS, 1),
+        count,
+    )
+}
+
+/// The same in a heap of two frames and two pages.
+fn waste_in_two(alloc: Global, count: u64) -> Result<()> {
+    waste_last(
+        alloc,
+        new_heap(alloc, 2, 2)?,
+        Policy::usual(WORDS, 2),
+        count,
+    )
+}
+
+/// The same in a heap that keeps one object. Gives the number in it at the end.
+fn keep_one(
+    alloc: Global,
+    mut heap: impl Holding + Drop,
+    policy: Policy,
+    count: u64,
+) -> Result<u64> {
+    heap.make(alloc, policy, ME, KEPT, 0)?;
+    heap.set_datum(ME, KEPT, 0, NUMBER)?;
+    waste(alloc, &mut heap, policy, count)?;
+    Ok(heap.datum(ME, KEPT, 0)?)
+}
+
+/// The same in a heap of three frames and six pages, which keeps one object.
+fn keep_in_three(alloc: Global, count: u64) -> Result<u64> {
+    keep_one(
+        alloc,
+        new_heap(alloc, 3, 6)?,
+        Policy::usual(WORDS, 3),
+        count,
+    )
+}
+
+/// Makes so many objects in each of the four heaps. Gives the number that one of them keeps.
+pub fn waste_in_each(alloc: Global, count: u64) -> Result<u64> {
+    waste_in_one(alloc, 1, count)?;
+    waste_in_one(alloc, 2, count)?;
+    waste_in_two(alloc, count)?;
+    keep_in_three(alloc, count)
+}

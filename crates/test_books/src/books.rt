@@ -1,0 +1,249 @@
+//! Books of the steps that a heap accepted.
+
+use crate::same::same;
+use cycle::{Actor, Answer, Book, Entry, Step, run};
+use heap::{Config, ConfigFault, NewFault, Refusal};
+use std::alloc::{AllocError, Global};
+use std::process::Abort;
+use std::test::Fail;
+use test_support_books::{HeldBook, act, small_book};
+use test_support_samples::small;
+
+/// What a step is answered.
+type Reply = Result<Answer, Refusal>;
+
+/// An actor, its step, and the reply that it has to have.
+type Row = (Actor, Step, Reply);
+
+const FIRST: Actor = Actor::Thread(0);
+
+const SECOND: Actor = Actor::Thread(1);
+
+/// An object of the one layout.
+fn new(target: u32) -> Step {
+    Step::New { target, layout: 0 }
+}
+
+/// Does the step of each row, and compares the reply.
+fn play(rt: &impl Abort, book: &mut Book, rows: Vec<Row>) {
+    for (actor, step, reply) in rows {
+        let told = act(book, actor, step);
+        same(rt, told, reply);
+    }
+}
+
+fn page_of_objects(alloc: Global) -> Result<Vec<Row>, AllocError> {
+    Ok(vec![in alloc;
+        (
+            FIRST,
+            Step::Take(4),
+            Ok(Answer::Lent { page: 1, offset: 0 })
+        ),
+        (FIRST, new(0), Ok(Answer::Birth(0))),
+        (
+            FIRST,
+            Step::SetDatum {
+                object: 0,
+                index: 1,
+                value: 9
+            },
+            Ok(Answer::Done)
+        ),
+        (
+            FIRST,
+            Step::Datum {
+                object: 0,
+                index: 1
+            },
+            Ok(Answer::Datum(9))
+        ),
+        (FIRST, new(1), Err(Refusal::NoRoom)),
+        (FIRST, Step::GiveBack, Ok(Answer::Done)),
+        (
+            FIRST,
+            Step::Take(13),
+            Err(Refusal::NoFrames { need: 1, free: 0 })
+        ),
+        (
+            FIRST,
+            Step::Take(12),
+            Ok(Answer::Lent { page: 1, offset: 4 })
+        ),
+    ]?)
+}
+
+/// The last entry is that of the second buffer.
+fn is_last(rt: &impl Abort, last: &Entry) {
+    same(rt, last.actor, FIRST);
+    assert!(rt; matches!(&last.step, Step::Take(12)));
+    same(rt, last.answer, Answer::Lent { page: 1, offset: 4 });
+}
+
+fn filled(rt: &impl Abort, mut held: impl HeldBook + Drop, rows: Vec<Row>) {
+    let book = held.book();
+    play(rt, book, rows);
+    same(rt, book.history().len(), 6);
+    same(rt, book.heap().births(), 1);
+    match book.history().get(5) {
+        None => assert!(rt; false),
+        Some(last) => is_last(rt, last.entry()),
+    }
+}
+
+#[test]
+fn a_page_is_filled(rt: HostRuntime) -> Result<(), Fail> {
+    let rows = page_of_objects(rt.alloc())?;
+    filled(&rt, small_book(rt.alloc())?, rows);
+    Ok(())
+}
+
+/// The steps of the rows with their actors, and the replies.
+fn parted(alloc: Global, rows: Vec<Row>) -> Result<(Vec<(Actor, Step)>, Vec<Reply>), Fail> {
+    let mut steps = Vec::new(alloc);
+    let mut replies = Vec::new(alloc);
+    for (actor, step, reply) in rows {
+        steps.push((actor, step))?;
+        replies.push(reply)?;
+    }
+    Ok((steps, replies))
+}
+
+fn replied(
+    rt: &impl Abort,
+    alloc: Global,
+    mut held: impl HeldBook + Drop,
+    rows: Vec<Row>,
+) -> Result<(), Fail> {
+    let book = held.book();
+    let (steps, wanted) = parted(alloc, rows)?;
+    let replies = run(alloc, book, steps)?;
+    same(rt, replies.as_slice(), wanted.as_slice());
+    same(rt, book.history().len(), 6);
+    Ok(())
+}
+
+#[test]
+fn a_run_replies_in_order(rt: HostRuntime) -> Result<(), Fail> {
+    let rows = page_of_objects(rt.alloc())?;
+    replied(&rt, rt.alloc(), small_book(rt.alloc())?, rows)
+}
+
+/// The steps of the rows that are to be accepted.
+fn accepted_steps(alloc: Global, rows: Vec<Row>) -> Result<Vec<(Actor, Step)>, Fail> {
+    let mut steps = Vec::new(alloc);
+    for (actor, step, reply) in rows {
+        if reply.is_ok() {
+            steps.push((actor, step))?;
+        }
+    }
+    Ok(steps)
+}
+
+/// Does the steps of those rows, all of which are accepted.
+fn accepted(alloc: Global, mut held: impl HeldBook + Drop, rows: Vec<Row>) -> Result<(), Fail> {
+    let book = held.book();
+    let steps = accepted_steps(alloc, rows)?;
+    for reply in run(alloc, book, steps)? {
+        reply?;
+    }
+    Ok(())
+}
+
+#[test]
+fn a_run_is_accepted(rt: HostRuntime) -> Result<(), Fail> {
+    let rows = page_of_objects(rt.alloc())?;
+    accepted(rt.alloc(), small_book(rt.alloc())?, rows)
+}
+
+/// Steps of which an actor or a number names nothing, on a heap with two registers and one layout.
+fn bad_steps(alloc: Global) -> Result<Vec<Row>, AllocError> {
+    Ok(vec![in alloc;
+        (SECOND, Step::Take(0), Err(Refusal::NoActor)),
+        (FIRST, Step::StartMark, Err(Refusal::NoActor)),
+        (FIRST, Step::Take(0), Err(Refusal::BadIndex)),
+        (FIRST, Step::Take(17), Err(Refusal::BadIndex)),
+        (
+            FIRST,
+            Step::New {
+                target: 0,
+                layout: 1
+            },
+            Err(Refusal::BadIndex)
+        ),
+        (
+            FIRST,
+            Step::LoadGlobal {
+                target: 0,
+                global: 0
+            },
+            Err(Refusal::BadIndex)
+        ),
+        (
+            FIRST,
+            Step::Same { left: 0, right: 2 },
+            Err(Refusal::BadIndex)
+        ),
+        (FIRST, Step::Scrub(2), Err(Refusal::BadIndex)),
+        (Actor::Worker(0), Step::GiveBack, Err(Refusal::NoActor)),
+    ]?)
+}
+
+/// Does the steps of the rows on a new book, which has so many entries then.
+fn plays(rt: &impl Abort, mut held: impl HeldBook + Drop, rows: Vec<Row>, entries: usize) {
+    let book = held.book();
+    play(rt, book, rows);
+    same(rt, book.history().len(), entries);
+}
+
+#[test]
+fn numbers_that_name_nothing(rt: HostRuntime) -> Result<(), Fail> {
+    let rows = bad_steps(rt.alloc())?;
+    plays(&rt, small_book(rt.alloc())?, rows, 0);
+    Ok(())
+}
+
+/// One birth, and three entries.
+fn limits(alloc: Global) -> Result<Config, AllocError> {
+    let mut config = small(alloc)?;
+    config.births = 1;
+    config.history = 3;
+    Ok(config)
+}
+
+fn limit_rows(alloc: Global) -> Result<Vec<Row>, AllocError> {
+    Ok(vec![in alloc;
+        (
+            FIRST,
+            Step::Take(16),
+            Ok(Answer::Lent { page: 1, offset: 0 })
+        ),
+        (FIRST, new(0), Ok(Answer::Birth(0))),
+        (FIRST, new(1), Err(Refusal::Births)),
+        (FIRST, Step::IsNull(1), Ok(Answer::Truth(true))),
+        (FIRST, Step::IsNull(1), Err(Refusal::HistoryFull)),
+        (SECOND, Step::IsNull(1), Err(Refusal::HistoryFull)),
+    ]?)
+}
+
+#[test]
+fn limits_are_kept(rt: HostRuntime) -> Result<(), Fail> {
+    let rows = limit_rows(rt.alloc())?;
+    plays(&rt, Book::new(rt.alloc(), limits(rt.alloc())?)?, rows, 3);
+    Ok(())
+}
+
+/// The field for which no book can be made.
+fn told(alloc: Global, config: Config) -> Option<ConfigFault> {
+    match Book::new(alloc, config).err() {
+        Some(NewFault::Config(fault)) => Some(fault),
+        _ => None,
+    }
+}
+
+#[test]
+fn a_fault_is_told(rt: HostRuntime) -> Result<(), Fail> {
+    let mut config = small(rt.alloc())?;
+    config.registers = 65_536;
+    same(&rt, told(rt.alloc(), config), Some(ConfigFault::Registers));
+    Ok(())
+}

@@ -1,0 +1,116 @@
+//! How many parts a collection has.
+
+use crate::listing::{LIVE, check, heap_of, insert_all};
+use crate::same::same;
+use collecting::{Holding, Parts};
+use model::Refusal;
+use std::alloc::Global;
+use std::process::Abort;
+use std::test::Fail;
+
+/// The page numbers of the heap.
+const PAGES: u32 = 48;
+
+/// The pages that the list is on, with what is dead: 39 objects, of which a page has room for 5.
+const USED: u32 = 8;
+
+/// The frames that are prepared: for 60 live words, and a sixteenth more.
+const FRAMES: u32 = 4;
+
+/// How many whole times a part is in a number.
+fn quotient(number: u32, part: u32) -> u32 {
+    number.checked_div(part).unwrap_or(0)
+}
+
+/// How many parts prepare frames. A part prepares one more than have 32 words for each object, and of each two parts
+/// one may find that a frame was taken meanwhile.
+fn preparings(budget: u32) -> u32 {
+    let by = budget.wrapping_mul(4);
+    quotient(FRAMES.wrapping_mul(2).wrapping_add(by), by.wrapping_add(1))
+}
+
+/// The most parts that a collection may take with this budget. One begins the mark, and has all threads cross.
+/// Each scan is of `budget` objects, and the last one, which finds fewer, ends the mark. Each look is at `each`
+/// pages of 16 words: as many as have 64 words for each object, and one more; the last one finds fewer. Some prepare
+/// frames, and one protects the pages that have room. Each of these is emptied by a part of its own, and one part finds
+/// none left.
+fn most_parts(budget: u32) -> u32 {
+    let each = budget.wrapping_mul(4).wrapping_add(1);
+    let scans = quotient(LIVE, budget).wrapping_add(1);
+    let looks = quotient(PAGES, each).wrapping_add(1);
+    let protects = preparings(budget).wrapping_add(1);
+    let empties = USED.wrapping_add(1);
+    scans
+        .wrapping_add(looks)
+        .wrapping_add(protects)
+        .wrapping_add(empties)
+        .wrapping_add(1)
+}
+
+/// The parts of one collection, of which at most so many are done. Gives how many there were, the last one with it.
+pub fn count_parts(
+    alloc: Global,
+    heap: &mut impl Holding,
+    parts: &mut Parts,
+    budget: u32,
+    most: u32,
+) -> Result<u32, Refusal> {
+    for done in 0..most {
+        if heap.collect_some(alloc, parts, 75, budget)? {
+            return Ok(done.wrapping_add(1));
+        }
+    }
+    Ok(most.wrapping_add(1))
+}
+
+/// So many collections, each of which has an end within its parts. Gives how many parts they had.
+fn collections(
+    rt: &impl Abort,
+    alloc: Global,
+    heap: &mut impl Holding,
+    budget: u32,
+    count: u32,
+) -> Result<u32, Fail> {
+    let most = most_parts(budget);
+    let mut parts = Parts::new(alloc);
+    let mut sum = 0u32;
+    for _ in 0..count {
+        let taken = count_parts(alloc, heap, &mut parts, budget, most)?;
+        same(rt, taken <= most, true);
+        sum = sum.wrapping_add(taken);
+    }
+    Ok(sum)
+}
+
+/// Four collections of a list beside which as many objects are dead, with this budget. Gives how many parts the first
+/// one had.
+fn counts(
+    rt: &impl Abort,
+    alloc: Global,
+    mut heap: impl Holding + Drop,
+    budget: u32,
+) -> Result<u32, Fail> {
+    insert_all(alloc, &mut heap)?;
+    let first = collections(rt, alloc, &mut heap, budget, 1)?;
+    collections(rt, alloc, &mut heap, budget, 3)?;
+    check(rt, &mut heap, LIVE)?;
+    Ok(first)
+}
+
+/// The first collection with this budget has just so many parts, which are as many as it may have: there is
+/// enough to be emptied.
+fn takes(rt: &impl Abort, alloc: Global, budget: u32, wanted: u32) -> Result<(), Fail> {
+    let found = counts(rt, alloc, heap_of(alloc, PAGES)?, budget)?;
+    same(rt, found, wanted);
+    same(rt, most_parts(budget), wanted);
+    Ok(())
+}
+
+/// The smaller the budget, the more parts.
+#[test]
+fn parts_by_budget(rt: HostRuntime) -> Result<(), Fail> {
+    for (budget, parts) in [(1, 44), (2, 29), (16, 15), (1000, 14)] {
+        takes(&rt, rt.alloc(), budget, parts)?;
+    }
+    Ok(())
+}

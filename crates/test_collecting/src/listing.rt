@@ -1,0 +1,85 @@
+//! A list in a heap of several threads, of which each second object is dead.
+
+use crate::same::same;
+use collecting::{Holding, Policy};
+use heap::Config;
+use layout::{Layout, Layouts};
+use managed::ManagedHeap;
+use model::Refusal;
+use std::alloc::Global;
+use std::process::Abort;
+use std::test::Fail;
+
+/// The thread that has the list. Others only cross.
+const ME: u32 = 0;
+
+/// Registers: the list's head, the object behind it, and a new one.
+const HEAD: u32 = 0;
+
+const BEHIND: u32 = 1;
+
+const NEW: u32 = 2;
+
+/// The objects of the list, with its head.
+pub const LIVE: u32 = 20;
+
+/// The datum of the head.
+const HEADS: u64 = 1000;
+
+/// Buffers of a page of 16 words, for which the heap is never collected.
+const POLICY: Policy = Policy {
+    words: 16,
+    free: 0,
+    percent: 75,
+};
+
+/// A heap of three threads, with pages of 16 words and half as many frames, and objects of a reference and a datum.
+pub fn heap_of(alloc: Global, pages: u32) -> Result<ManagedHeap, Fail> {
+    let layouts = Layouts::new(vec![in alloc; Layout { refs: 1, nums: 1 }]?);
+    let mut config = Config::new(16, pages / 2, layouts);
+    config.pages = pages;
+    config.threads = 3;
+    Ok(ManagedHeap::new(alloc, config)?)
+}
+
+/// A new object of this datum, in the register `NEW`.
+fn make(alloc: Global, heap: &mut impl Holding, datum: u64) -> Result<(), Refusal> {
+    heap.make(alloc, POLICY, ME, NEW, 0)?;
+    heap.set_datum(ME, NEW, 0, datum)
+}
+
+/// A new object of this datum goes behind the head, before the one that was there: a load and two stores.
+pub fn insert(alloc: Global, heap: &mut impl Holding, datum: u64) -> Result<(), Refusal> {
+    make(alloc, heap, datum)?;
+    heap.read(ME, BEHIND, HEAD, 0)?;
+    heap.store(ME, NEW, 0, BEHIND)?;
+    heap.store(ME, HEAD, 0, NEW)?;
+    heap.clear_register(ME, BEHIND)?;
+    heap.clear_register(ME, NEW)
+}
+
+/// The list: its head, and the others by rising data, beside each of which one is made that nobody keeps.
+pub fn insert_all(alloc: Global, heap: &mut impl Holding) -> Result<(), Refusal> {
+    make(alloc, heap, HEADS)?;
+    heap.copy_register(ME, HEAD, NEW)?;
+    for datum in 0..LIVE.wrapping_sub(1) {
+        insert(alloc, heap, u64::from(datum))?;
+        make(alloc, heap, 0)?;
+    }
+    heap.clear_register(ME, NEW)?;
+    heap.give_back(ME)
+}
+
+/// The list has so many objects, with their data by falling numbers behind the head.
+pub fn check(rt: &impl Abort, heap: &mut impl Holding, count: u32) -> Result<(), Refusal> {
+    same(rt, heap.datum(ME, HEAD, 0), Ok(HEADS));
+    heap.copy_register(ME, BEHIND, HEAD)?;
+    for turn in 2..count.wrapping_add(1) {
+        heap.read(ME, BEHIND, BEHIND, 0)?;
+        let wanted = u64::from(count.wrapping_sub(turn));
+        same(rt, heap.datum(ME, BEHIND, 0), Ok(wanted));
+    }
+    heap.read(ME, BEHIND, BEHIND, 0)?;
+    same(rt, heap.is_null(ME, BEHIND), Ok(true));
+    Ok(())
+}

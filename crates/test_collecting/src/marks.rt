@@ -1,0 +1,164 @@
+//! Marks that run while objects are still to be copied, and while the worker has an object.
+
+use crate::same::same;
+use collecting::{Collected, Holding, Parts};
+use managed::ManagedHeap;
+use model::{Actor, PageList, Refusal, Step};
+use std::alloc::Global;
+use std::process::Abort;
+use std::test::Fail;
+use test_support_heaps::new_heap;
+
+const ME: u32 = 0;
+
+const HEAD: u32 = 0;
+
+const NEXT: u32 = 1;
+
+/// What these tests ask of a heap beside `Holding`. It promises nothing, so that the proofs of tests are
+/// short.
+trait Marking: Holding {
+    /// A step of worker 0.
+    fn work(&mut self, step: &Step) -> Result<(), Refusal>;
+
+    /// At most so many scans of worker 0.
+    fn scan(&mut self, most: u64) -> Result<bool, Refusal>;
+
+    /// A whole drain by worker 0.
+    fn drain(&mut self) -> Result<(), Refusal>;
+
+    /// What is left of a mark, by worker 0.
+    fn finish_mark(&mut self) -> Result<u64, Refusal>;
+
+    /// How many objects are still to be copied, and whether worker 0 has an object.
+    fn progress(&self) -> (u64, bool);
+}
+
+impl Marking for ManagedHeap {
+    fn work(&mut self, step: &Step) -> Result<(), Refusal> {
+        self.step(Actor::Worker(0), step)?;
+        Ok(())
+    }
+
+    fn scan(&mut self, most: u64) -> Result<bool, Refusal> {
+        ManagedHeap::scan(self, 0, most)
+    }
+
+    fn drain(&mut self) -> Result<(), Refusal> {
+        ManagedHeap::drain(self, 0)
+    }
+
+    fn finish_mark(&mut self) -> Result<u64, Refusal> {
+        ManagedHeap::finish_mark(self, 0)
+    }
+
+    fn progress(&self) -> (u64, bool) {
+        let heap = self.heap();
+        let busy = heap.workers().iter().any(|scan| scan.is_some());
+        (heap.sides().uncopied(), busy)
+    }
+}
+
+/// A new object with a datum becomes the head of the list in register `HEAD`.
+fn push(heap: &mut impl Marking, value: u64) -> Result<(), Refusal> {
+    heap.new_object(ME, NEXT, 0)?;
+    heap.set_datum(ME, NEXT, 0, value)?;
+    heap.store(ME, NEXT, 0, HEAD)?;
+    heap.copy_register(ME, HEAD, NEXT)
+}
+
+/// A list of ten objects with the data 0 to 9, the last one first, five on each of the pages 1 and 2.
+fn fill(heap: &mut impl Marking) -> Result<(), Refusal> {
+    for page in 0..2u64 {
+        heap.take(ME, 16)?;
+        for value in 0..5u64 {
+            push(heap, page.wrapping_mul(5).wrapping_add(value))?;
+        }
+        heap.give_back(ME)?;
+    }
+    heap.clear_register(ME, NEXT)
+}
+
+/// That list, of which the pages were protected, in a mark that the thread has crossed. Worker 0 has marked
+/// the 64 globals and has the head of the list, which the crossing has copied; nine objects are still to be
+/// copied.
+fn mark_halfway(rt: &impl Abort, alloc: Global, heap: &mut impl Marking) -> Result<(), Fail> {
+    fill(heap)?;
+    heap.work(&Step::StartMark)?;
+    same(rt, heap.finish_mark(), Ok(10));
+    heap.work(&Step::Protect(PageList::new(vec![in alloc; 1, 2]?)))?;
+    heap.cross(ME)?;
+    heap.work(&Step::StartMark)?;
+    heap.cross(ME)?;
+    same(rt, heap.progress(), (9, false));
+    same(rt, heap.scan(65), Ok(false));
+    same(rt, heap.progress(), (9, true));
+    Ok(())
+}
+
+/// The list is as it was made.
+fn is_whole(rt: &impl Abort, heap: &mut impl Marking) -> Result<(), Fail> {
+    for value in 0..10u64 {
+        same(rt, heap.datum(ME, HEAD, 0), Ok(9u64.wrapping_sub(value)));
+        heap.read(ME, HEAD, HEAD, 0)?;
+    }
+    same(rt, heap.is_null(ME, HEAD), Ok(true));
+    Ok(())
+}
+
+/// A drain copies what is left, and scans the rest.
+fn drains(rt: &impl Abort, alloc: Global, mut heap: impl Marking + Drop) -> Result<(), Fail> {
+    mark_halfway(rt, alloc, &mut heap)?;
+    same(rt, heap.drain(), Ok(()));
+    same(rt, heap.progress(), (0, false));
+    same(rt, heap.finish_mark(), Ok(10));
+    is_whole(rt, &mut heap)
+}
+
+#[test]
+fn drain_copies_first(rt: HostRuntime) -> Result<(), Fail> {
+    drains(&rt, rt.alloc(), new_heap(rt.alloc(), 8, 16)?)
+}
+
+/// The next part of a collection. True where it has ended.
+fn part(alloc: Global, heap: &mut impl Marking, parts: &mut Parts) -> Result<bool, Refusal> {
+    heap.collect_some(alloc, parts, 50, 1)
+}
+
+/// Parts do the same, one after another: the object that the worker has, and each page.
+fn goes_by_parts(
+    rt: &impl Abort,
+    alloc: Global,
+    mut heap: impl Marking + Drop,
+) -> Result<(), Fail> {
+    mark_halfway(rt, alloc, &mut heap)?;
+    let mut parts = Parts::new(alloc);
+    same(rt, part(alloc, &mut heap, &mut parts), Ok(false));
+    same(rt, heap.progress(), (8, false));
+    same(rt, part(alloc, &mut heap, &mut parts), Ok(false));
+    same(rt, heap.progress(), (3, false));
+    same(rt, part(alloc, &mut heap, &mut parts), Ok(false));
+    same(rt, heap.progress(), (0, false));
+    Ok(())
+}
+
+#[test]
+fn parts_copy_first(rt: HostRuntime) -> Result<(), Fail> {
+    goes_by_parts(&rt, rt.alloc(), new_heap(rt.alloc(), 8, 16)?)
+}
+
+/// A collection that comes in the middle ends that mark.
+fn collects(rt: &impl Abort, alloc: Global, mut heap: impl Marking + Drop) -> Result<(), Fail> {
+    mark_halfway(rt, alloc, &mut heap)?;
+    let none = Collected {
+        live: 10,
+        emptied: 0,
+    };
+    same(rt, heap.collect(alloc, 50), Ok(none));
+    is_whole(rt, &mut heap)
+}
+
+#[test]
+fn collection_ends_mark(rt: HostRuntime) -> Result<(), Fail> {
+    collects(&rt, rt.alloc(), new_heap(rt.alloc(), 8, 16)?)
+}

@@ -1,0 +1,55 @@
+//! Collections in parts.
+
+use crate::same::same;
+use collecting::{Holding, Parts, Policy};
+use model::Refusal;
+use std::alloc::Global;
+use std::process::Abort;
+use std::test::Fail;
+use test_support_heaps::new_heap;
+
+const ME: u32 = 0;
+
+const KEPT: u32 = 0;
+
+const LOST: u32 = 1;
+
+/// Parts up to the end of a collection, at most so many. Gives how many they were.
+fn collect(
+    alloc: Global,
+    heap: &mut impl Holding,
+    parts: &mut Parts,
+    most: u32,
+) -> Result<u32, Refusal> {
+    for done in 0..most {
+        if heap.collect_some(alloc, parts, 50, 1)? {
+            return Ok(done);
+        }
+    }
+    Ok(most)
+}
+
+/// Objects are made between the parts, and one is kept; each collection ends.
+fn goes_on(rt: &impl Abort, alloc: Global, mut heap: impl Holding + Drop) -> Result<(), Fail> {
+    let policy = Policy::usual(16, 8);
+    let mut parts = Parts::new(alloc);
+    heap.make(alloc, policy, ME, KEPT, 0)?;
+    heap.set_datum(ME, KEPT, 0, 9)?;
+    let mut ended = 0u32;
+    for _ in 0..500 {
+        heap.make(alloc, policy, ME, LOST, 0)?;
+        if heap.collect_some(alloc, &mut parts, 50, 1)? {
+            ended = ended.wrapping_add(1);
+        }
+    }
+    same(rt, heap.datum(ME, KEPT, 0), Ok(9));
+    same(rt, ended > 5, true);
+    same(rt, collect(alloc, &mut heap, &mut parts, 100)? < 100, true);
+    same(rt, heap.datum(ME, KEPT, 0), Ok(9));
+    Ok(())
+}
+
+#[test]
+fn parts_between_steps(rt: HostRuntime) -> Result<(), Fail> {
+    goes_on(&rt, rt.alloc(), new_heap(rt.alloc(), 8, 16)?)
+}

@@ -1,0 +1,115 @@
+//! When a heap is collected for a buffer.
+
+use crate::same::same;
+use collecting::{Holding, Parts, Policy};
+use managed::ManagedHeap;
+use model::Refusal;
+use std::alloc::Global;
+use std::process::Abort;
+use std::test::Fail;
+use test_support_heaps::new_heap;
+
+const ME: u32 = 0;
+
+/// The register of what is made, and kept by nobody else.
+const LOST: u32 = 0;
+
+/// A heap that is held, whose free frames are counted.
+trait Framed: Holding {
+    fn free_frames(&self) -> u32;
+}
+
+impl Framed for ManagedHeap {
+    fn free_frames(&self) -> u32 {
+        self.heap().memory().free_frames()
+    }
+}
+
+/// Buffers of a page of 16 words, for which a heap is collected where at most so many frames are free.
+fn policy(free: u32) -> Policy {
+    Policy {
+        words: 16,
+        free,
+        percent: 75,
+    }
+}
+
+/// Makes so many objects that nobody keeps, not even in a register. Gives how few frames were free at least.
+fn waste(alloc: Global, heap: &mut impl Framed, free: u32, count: u32) -> Result<u32, Refusal> {
+    let mut least = u32::MAX;
+    for _ in 0..count {
+        heap.make(alloc, policy(free), ME, LOST, 0)?;
+        heap.clear_register(ME, LOST)?;
+        least = least.min(heap.free_frames());
+    }
+    Ok(least)
+}
+
+/// Where a heap of eight frames is collected at four free ones, so many are never taken.
+fn collects(rt: &impl Abort, alloc: Global, mut heap: impl Framed + Drop) -> Result<(), Fail> {
+    same(rt, waste(alloc, &mut heap, 4, 200), Ok(4));
+    Ok(())
+}
+
+#[test]
+fn where_the_policy_says(rt: HostRuntime) -> Result<(), Fail> {
+    collects(&rt, rt.alloc(), new_heap(rt.alloc(), 8, 16)?)
+}
+
+/// Where it is collected at one free frame, six pages of five objects are all there behind them.
+fn waits(rt: &impl Abort, alloc: Global, mut heap: impl Framed + Drop) -> Result<(), Fail> {
+    same(rt, waste(alloc, &mut heap, 1, 30), Ok(2));
+    same(rt, heap.free_frames(), 2);
+    Ok(())
+}
+
+#[test]
+fn only_there(rt: HostRuntime) -> Result<(), Fail> {
+    waits(&rt, rt.alloc(), new_heap(rt.alloc(), 8, 16)?)
+}
+
+/// Makes `count` objects that nobody keeps, while the heap is collected in parts. Returns the fewest frames that were
+/// free after one.
+fn waste_paced(alloc: Global, heap: &mut impl Framed, count: u32) -> Result<u32, Refusal> {
+    let mut parts = Parts::new(alloc);
+    let mut least = u32::MAX;
+    for _ in 0..count {
+        heap.make_paced(alloc, &mut parts, policy(32), 4096, ME, LOST, 0)?;
+        heap.clear_register(ME, LOST)?;
+        least = least.min(heap.free_frames());
+    }
+    Ok(least)
+}
+
+/// The same of objects that are filled.
+fn waste_filled(alloc: Global, heap: &mut impl Framed, count: u32) -> Result<u32, Refusal> {
+    let mut parts = Parts::new(alloc);
+    let mut least = u32::MAX;
+    for _ in 0..count {
+        heap.make_with_paced(alloc, &mut parts, policy(32), 4096, ME, LOST, 0, &[], &[7])?;
+        heap.clear_register(ME, LOST)?;
+        least = least.min(heap.free_frames());
+    }
+    Ok(least)
+}
+
+/// Frames are taken while the heap is collected in parts, which ends while many are left: a complete collection waits
+/// until at most eight are, a quarter of those that the policy asks for.
+fn paces(rt: &impl Abort, alloc: Global, mut heap: impl Framed + Drop) -> Result<(), Fail> {
+    let least = waste_paced(alloc, &mut heap, 5000)?;
+    assert!(rt;
+        least > 8 && least < 32,
+        "{least} frames were free at least"
+    );
+    let least = waste_filled(alloc, &mut heap, 5000)?;
+    assert!(rt;
+        least > 8 && least < 32,
+        "{least} frames were free at least"
+    );
+    Ok(())
+}
+
+#[test]
+fn in_parts(rt: HostRuntime) -> Result<(), Fail> {
+    paces(&rt, rt.alloc(), new_heap(rt.alloc(), 64, 128)?)
+}

@@ -1,0 +1,64 @@
+//! Calls that are done in one go: on a heap that isn't collected each of them is, also while a thread has loaded. Their
+//! contracts allow that nothing is done; the call behind each then does it.
+
+use crate::same::same;
+use collecting::{Holding, Policy};
+use heap::Config;
+use layout::{Layout, Layouts};
+use managed::ManagedHeap;
+use model::Refusal;
+use std::alloc::Global;
+use std::process::Abort;
+use std::test::Fail;
+
+const ME: u32 = 0;
+
+/// The register of an object whose first reference is itself.
+const NODE: u32 = 0;
+
+/// The register that gets a reference.
+const READ: u32 = 1;
+
+/// A heap whose calls are done in one go.
+trait InOneGo: Holding {
+    /// Whether each call on the object in a register is done.
+    fn are_done(&mut self) -> [bool; 6];
+}
+
+impl InOneGo for ManagedHeap {
+    fn are_done(&mut self) -> [bool; 6] {
+        [
+            self.store_at_once(ME, NODE, 1, NODE),
+            self.read_at_once(ME, READ, NODE, 1),
+            self.set_datum_at_once(ME, READ, 0, 7),
+            self.datum_at_once(ME, NODE, 0) == Some(7),
+            self.same_at_once(ME, NODE, READ) == Some(true),
+            self.header_at_once(ME, READ) == Some(0),
+        ]
+    }
+}
+
+/// Makes an object of two references and one data word.
+fn make(alloc: Global, heap: &mut impl Holding) -> Result<u64, Refusal> {
+    let policy = Policy {
+        words: 16,
+        free: 0,
+        percent: 75,
+    };
+    heap.make(alloc, policy, ME, NODE, 0)
+}
+
+/// All calls on a new object are done, and once more.
+fn all_done(rt: &impl Abort, alloc: Global, mut heap: impl InOneGo + Drop) {
+    same(rt, make(alloc, &mut heap), Ok(0));
+    same(rt, heap.are_done(), [true; 6]);
+    same(rt, heap.are_done(), [true; 6]);
+}
+
+#[test]
+fn calls_are_done_in_one_go(rt: HostRuntime) -> Result<(), Fail> {
+    let layouts = Layouts::new(vec![in rt.alloc(); Layout { refs: 2, nums: 1 }]?);
+    let heap = ManagedHeap::new(rt.alloc(), Config::new(16, 8, layouts))?;
+    all_done(&rt, rt.alloc(), heap);
+    Ok(())
+}

@@ -1,0 +1,50 @@
+//! Calls that are done at once if no trap is due: on a heap that isn't collected each of them is. Their contracts allow
+//! that nothing is done; the slow way then does it.
+
+use crate::same::same;
+use cycle::Mutating;
+use heap::Heap;
+use model::Refusal;
+use std::process::Abort;
+use std::test::Fail;
+use test_support_samples::shared_by_two;
+
+/// A heap whose calls are done at once.
+trait AtOnce: Mutating {
+    /// Whether each call on the object in register 0 is done.
+    fn are_done(&mut self) -> [bool; 6];
+}
+
+impl AtOnce for Heap {
+    fn are_done(&mut self) -> [bool; 6] {
+        [
+            self.store_at_once(0, 0, 0, 0),
+            self.load_at_once(0, 1, 0, 0),
+            self.load_global_at_once(0, 1, 0),
+            self.set_datum_at_once(0, 0, 0, 7),
+            self.datum_at_once(0, 0, 0) == Some(7),
+            self.header_at_once(0, 0) == Some(0),
+        ]
+    }
+}
+
+/// Makes an object in register 0, which global 0 names too.
+fn make(heap: &mut impl Mutating) -> Result<(), Refusal> {
+    heap.take(0, 16)?;
+    heap.new_object(0, 0, 0)?;
+    heap.store_global(0, 0, 0)
+}
+
+/// All calls on a new object are done.
+fn all_done(rt: &impl Abort, mut heap: impl AtOnce + Drop) {
+    same(rt, make(&mut heap), Ok(()));
+    same(rt, heap.are_done(), [true; 6]);
+}
+
+#[test]
+fn calls_are_done_at_once(rt: HostRuntime) -> Result<(), Fail> {
+    let mut config = shared_by_two(rt.alloc())?;
+    config.globals = 1;
+    all_done(&rt, Heap::new(rt.alloc(), config)?);
+    Ok(())
+}

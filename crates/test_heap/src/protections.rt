@@ -1,0 +1,127 @@
+//! What a protection that lacks memory leaves, and what no script can ask for. What else is refused, and how
+//! objects move, is tested by scripts.
+
+use crate::same::same;
+use cycle::Stepping;
+use heap::{Heap, NewFault};
+use model::{Actor, Answer, PageList, PageState, Phase, Refusal, Reply, Step};
+use std::alloc::{AllocError, Global};
+use std::process::Abort;
+use std::test::Fail;
+use test_support_samples::shared_by_two;
+
+const FIRST: Actor = Actor::Thread(0);
+
+const SECOND: Actor = Actor::Thread(1);
+
+const WORKER: Actor = Actor::Worker(0);
+
+/// A heap that can be asked for all that it has. A test hands its heap on as one: to hold a `Heap`
+/// over calls is dear to prove.
+pub trait HeldHeap: Stepping {
+    /// The heap.
+    fn heap(&self) -> &Heap;
+}
+
+impl HeldHeap for Heap {
+    fn heap(&self) -> &Heap {
+        self
+    }
+}
+
+/// A step of this actor has this reply.
+fn says(
+    rt: &impl Abort,
+    heap: &mut impl Stepping,
+    actor: Actor,
+    step: Step,
+    reply: Result<Answer, Refusal>,
+) {
+    same(rt, heap.step(actor, &step), reply);
+}
+
+/// Page 1 is filled with one object, which the global names, and a mark closes it.
+fn close(heap: &mut impl Stepping) -> Result<(), Refusal> {
+    let (target, layout, global, source) = (0, 0, 0, 0);
+    for (actor, step) in [
+        (FIRST, Step::Take(16)),
+        (FIRST, Step::New { target, layout }),
+        (FIRST, Step::StoreGlobal { global, source }),
+        (FIRST, Step::GiveBack),
+        (WORKER, Step::StartMark),
+        (FIRST, Step::Cross),
+        (SECOND, Step::Cross),
+        (WORKER, Step::ScanGlobal(0)),
+        (WORKER, Step::Pick { page: 1, offset: 0 }),
+        (WORKER, Step::ScanField),
+        (WORKER, Step::ScanField),
+        (WORKER, Step::EndMark),
+    ] {
+        heap.step(actor, &step)?;
+    }
+    Ok(())
+}
+
+/// A new heap of two threads.
+fn new_heap(alloc: Global) -> Result<Heap, NewFault> {
+    Heap::new(alloc, shared_by_two(alloc)?)
+}
+
+/// The list of page 1.
+fn first_page(alloc: Global) -> Result<PageList, AllocError> {
+    Ok(PageList::new(vec![in alloc; 1]?))
+}
+
+/// One object goes to one target.
+const ONE: Reply = Ok(Answer::Protected {
+    objects: 1,
+    targets: 1,
+});
+
+/// Nothing is protected, and page 1 is the only one that has a frame.
+fn is_as_before(rt: &impl Abort, heap: &Heap) {
+    same(rt, heap.phase(), Phase::Idle);
+    same(rt, heap.memory().state(1), PageState::Closed);
+    same(rt, heap.memory().state(2), PageState::Unused);
+    same(rt, heap.memory().free_frames(), 2);
+    same(rt, heap.sides().entry_on(1, 0), None);
+}
+
+/// A protection that lacks memory leaves the heap as it was, and is done when it is asked again.
+fn protects(rt: &impl Abort, mut heap: impl HeldHeap + Drop, step: &Step) -> Result<(), Refusal> {
+    close(&mut heap)?;
+    let reply = heap.step(WORKER, step);
+    if reply == Err(Refusal::Memory) {
+        is_as_before(rt, heap.heap());
+        same(rt, heap.step(WORKER, step), ONE);
+        return Err(Refusal::Memory);
+    }
+    same(rt, reply, ONE);
+    Ok(())
+}
+
+#[test]
+fn a_page_is_protected(rt: HostRuntime) -> Result<(), Fail> {
+    let step = Step::Protect(first_page(rt.alloc())?);
+    protects(&rt, new_heap(rt.alloc())?, &step)?;
+    Ok(())
+}
+
+/// A list of no pages is refused. A thread protects and releases nothing.
+fn refuses(rt: &impl Abort, alloc: Global, mut heap: impl HeldHeap + Drop) -> Result<(), Fail> {
+    close(&mut heap)?;
+    let none = Step::Protect(PageList::new(Vec::new(alloc)));
+    says(rt, &mut heap, WORKER, none, Err(Refusal::BadIndex));
+    let no_worker = Err(Refusal::NoActor);
+    let first = Step::Protect(first_page(alloc)?);
+    says(rt, &mut heap, FIRST, first, no_worker);
+    says(rt, &mut heap, FIRST, Step::Release(1), no_worker);
+    is_as_before(rt, heap.heap());
+    Ok(())
+}
+
+#[test]
+fn what_no_script_asks(rt: HostRuntime) -> Result<(), Fail> {
+    refuses(&rt, rt.alloc(), new_heap(rt.alloc())?)?;
+    Ok(())
+}

@@ -1,0 +1,287 @@
+//! Plans beside a loop that places objects by hand, and side arrays.
+
+use crate::same::{same, same_at};
+use forward::{Plan, Side, Sides};
+use markbits::Row;
+use refword::Addr;
+use std::alloc::{AllocError, Global};
+use std::process::Abort;
+use std::test::Fail;
+use test_support_samples::scatter;
+
+/// So many sizes without order, from 1 on.
+fn sizes(alloc: Global, count: u32, most: u32) -> Result<Vec<u32>, AllocError> {
+    let mut sizes = Vec::with_capacity(alloc, count as usize)?;
+    let mut number = u64::from(most);
+    for _ in 0..count {
+        number = scatter(number);
+        sizes.push((number >> 33) as u32 % most.max(1) + 1)?;
+    }
+    Ok(sizes)
+}
+
+/// The target and the offset of an object in a plan.
+fn place(plan: &Plan, index: usize) -> Option<(usize, u32)> {
+    let slot = plan.place(index)?;
+    Some((slot.target(), slot.offset()))
+}
+
+/// A plan has these places and no more.
+fn has_places(rt: &impl Abort, plan: &Plan, places: &[(usize, u32)], targets: usize) {
+    for (index, wanted) in places.iter().enumerate() {
+        same_at(rt, index, place(plan, index), Some(*wanted));
+    }
+    same(rt, place(plan, places.len()), None);
+    same(rt, (plan.len(), plan.targets()), (places.len(), targets));
+}
+
+/// A plan of objects of these sizes, on pages of 16 words, has these places and no more.
+fn places(
+    rt: &impl Abort,
+    alloc: Global,
+    sizes: &[u32],
+    places: &[(usize, u32)],
+    targets: usize,
+) -> Result<(), AllocError> {
+    has_places(rt, &Plan::new(alloc, 16, sizes)?, places, targets);
+    Ok(())
+}
+
+/// In the last, an object that would fit into an earlier target goes behind the last one.
+#[test]
+fn small_plans(rt: HostRuntime) -> Result<(), AllocError> {
+    let alloc: Global = rt.alloc();
+    places(&rt, alloc, &[], &[], 0)?;
+    let whole = [(0, 0), (1, 0), (2, 0)];
+    places(&rt, alloc, &[16, 16, 16], &whole, 3)?;
+    let filled = [(0, 0), (0, 10), (1, 0), (1, 7), (2, 0)];
+    places(&rt, alloc, &[10, 6, 7, 9, 1], &filled, 3)?;
+    let behind = [(0, 0), (1, 0), (2, 0), (2, 5), (2, 9)];
+    places(&rt, alloc, &[10, 12, 5, 4, 6], &behind, 3)
+}
+
+/// Each object stands behind the one before it, or at the head of the next target where the rest
+/// of the present one is too small.
+fn follows(rt: &impl Abort, plan: &Plan, words: u32, sizes: &[u32]) {
+    let mut target = 0usize;
+    let mut rest = words;
+    for (index, size) in sizes.iter().enumerate() {
+        if *size > rest {
+            target = target.saturating_add(1);
+            rest = words;
+        }
+        let offset = words.saturating_sub(rest);
+        same_at(rt, index, place(plan, index), Some((target, offset)));
+        rest = rest.saturating_sub(*size);
+    }
+    same(rt, plan.len(), sizes.len());
+    same(rt, plan.targets(), target.saturating_add(1));
+}
+
+/// A plan of 2,000 objects, on pages of so many words.
+fn plans(rt: &impl Abort, alloc: Global, words: u32, most: u32) -> Result<(), AllocError> {
+    let sizes = sizes(alloc, 2000, most)?;
+    follows(rt, &Plan::new(alloc, words, &sizes)?, words, &sizes);
+    Ok(())
+}
+
+#[test]
+fn plans_beside_a_loop(rt: HostRuntime) -> Result<(), AllocError> {
+    for (words, most) in [(16, 16), (16, 5), (64, 33), (512, 512), (4096, 256)] {
+        plans(&rt, rt.alloc(), words, most)?;
+    }
+    Ok(())
+}
+
+const OFFSETS: [u32; 5] = [0, 3, 4, 9, 15];
+
+/// A row of 16 places, of which these are set.
+pub fn live(alloc: Global, offsets: &[u32]) -> Result<Row, AllocError> {
+    let mut live = Row::new(alloc, 16)?;
+    for offset in offsets {
+        live.put(*offset as usize, true);
+    }
+    Ok(live)
+}
+
+/// A side array of a row of a page, with a place for each object.
+pub fn side_of(alloc: Global, live: Row, places: Vec<Addr>) -> Result<Side, Fail> {
+    if live.len() > 32_768 || live.count() != places.len() {
+        return Err("another row".into());
+    }
+    Ok(Side::new(alloc, live, places)?)
+}
+
+/// A side array of objects at these offsets, of which the one at 4 is copied.
+fn five(alloc: Global, to: u64) -> Result<Side, Fail> {
+    let to = Addr::new(to).ok_or("no address")?;
+    let places = vec![in alloc; to; OFFSETS.len()]?;
+    let mut side = side_of(alloc, live(alloc, &OFFSETS)?, places)?;
+    side.set_copied(4);
+    Ok(side)
+}
+
+/// What is found at offsets, and between and behind them.
+fn finds(rt: &impl Abort, side: &Side, offsets: &[u32]) {
+    for offset in 0..20 {
+        let found = side.find(offset).map(|entry| entry.offset);
+        let wanted = if offsets.contains(&offset) {
+            Some(offset)
+        } else {
+            None
+        };
+        same_at(rt, offset, found, wanted);
+    }
+    for (index, offset) in offsets.iter().enumerate() {
+        let found = side.entry(index).map(|entry| entry.offset);
+        same_at(rt, index, found, Some(*offset));
+    }
+    same(
+        rt,
+        (side.len(), side.entry(offsets.len())),
+        (offsets.len(), None),
+    );
+}
+
+/// One object after another is copied; what has no entry, and what is copied, changes nothing.
+fn copies(rt: &impl Abort, side: &mut Side) {
+    for (offset, left) in [
+        (1, 4),
+        (0, 3),
+        (4, 3),
+        (15, 2),
+        (0, 2),
+        (9, 1),
+        (16, 1),
+        (3, 0),
+    ] {
+        assert!(rt; !side.is_copied(), "before {offset}");
+        side.set_copied(offset);
+        same_at(rt, offset, side.uncopied(), left);
+    }
+    assert!(rt; side.is_copied());
+}
+
+#[test]
+fn a_side_array(rt: HostRuntime) -> Result<(), Fail> {
+    let mut side = five(rt.alloc(), 32)?;
+    finds(&rt, &side, &OFFSETS);
+    copies(&rt, &mut side);
+    finds(&rt, &side, &OFFSETS);
+    Ok(())
+}
+
+#[test]
+fn a_side_array_of_nothing(rt: HostRuntime) {
+    let side = Side::empty(rt.alloc());
+    finds(&rt, &side, &[]);
+    assert!(rt; side.is_copied());
+}
+
+const PAGES: [u32; 6] = [0, 1, 2, 3, 4, u32::MAX];
+
+/// Where the object at offset 9 of each of these pages goes, if it is to go.
+fn ninths(sides: &Sides) -> [Option<u64>; 6] {
+    PAGES.map(|page| Some(sides.entry_at(u64::from(page), 9)?.to.number()))
+}
+
+/// The offset of the fourth entry of each of these pages, if it has so many.
+fn fourths(sides: &Sides) -> [Option<u32>; 6] {
+    PAGES.map(|page| Some(sides.entry_on(page, 3)?.offset))
+}
+
+/// Which of these pages have no entry that is still to be copied.
+fn copied(sides: &Sides) -> [bool; 6] {
+    PAGES.map(|page| sides.is_copied(page))
+}
+
+/// The objects of a page go to this place.
+fn put_five(alloc: Global, sides: &mut Sides, index: usize, to: u64) -> Result<(), Fail> {
+    sides.put(index, five(alloc, to)?);
+    Ok(())
+}
+
+/// Pages 1 and 3 of three are protected; there is no page 10.
+fn protects(rt: &impl Abort, alloc: Global, sides: &mut Sides) -> Result<(), Fail> {
+    same(rt, (sides.uncopied(), copied(sides)), (0, [true; 6]));
+    put_five(alloc, sides, 0, 32)?;
+    put_five(alloc, sides, 2, 48)?;
+    put_five(alloc, sides, 9, 96)?;
+    is_protected(rt, sides);
+    Ok(())
+}
+
+/// What is found of them then.
+fn is_protected(rt: &impl Abort, sides: &Sides) {
+    same(
+        rt,
+        ninths(sides),
+        [None, Some(32), None, Some(48), None, None],
+    );
+    same(
+        rt,
+        fourths(sides),
+        [None, Some(9), None, Some(9), None, None],
+    );
+    same(rt, copied(sides), [true, false, true, false, true, true]);
+    same(rt, sides.uncopied(), 8);
+}
+
+/// All of page 3 is copied, and one object of page 1; nothing else is.
+fn copies_of_pages(rt: &impl Abort, sides: &mut Sides) {
+    for (index, offset, left) in [
+        (2, 0, 7),
+        (2, 9, 6),
+        (1, 0, 6),
+        (3, 3, 6),
+        (2, 3, 5),
+        (2, 15, 4),
+        (0, 9, 3),
+        (0, 9, 3),
+    ] {
+        sides.set_copied(index, offset);
+        same_at(rt, offset, sides.uncopied(), left);
+    }
+    same(rt, copied(sides), [true, false, true, true, true, true]);
+}
+
+/// Page 1 has another side array, and all are let go.
+fn clears(rt: &impl Abort, sides: &mut Sides) {
+    same(rt, (sides.uncopied(), ninths(sides)[1]), (4, Some(64)));
+    sides.clear_all();
+    same(rt, (sides.uncopied(), ninths(sides)), (0, [None; 6]));
+    let there = (sides.get(2).is_some(), sides.get(3).is_some());
+    same(rt, there, (true, false));
+}
+
+/// Side arrays that can be lent. A test hands its own on as these: to hold `Sides` over calls is dear
+/// to prove.
+trait HeldSides {
+    /// The side arrays.
+    fn sides(&mut self) -> &mut Sides;
+}
+
+impl HeldSides for Sides {
+    fn sides(&mut self) -> &mut Sides {
+        self
+    }
+}
+
+/// They are put, marked as copied, and cleared.
+fn changes_sides(
+    rt: &impl Abort,
+    alloc: Global,
+    mut held: impl HeldSides + Drop,
+) -> Result<(), Fail> {
+    let sides = held.sides();
+    protects(rt, alloc, sides)?;
+    copies_of_pages(rt, sides);
+    put_five(alloc, sides, 0, 64)?;
+    clears(rt, sides);
+    Ok(())
+}
+
+#[test]
+fn side_arrays_of_pages(rt: HostRuntime) -> Result<(), Fail> {
+    changes_sides(&rt, rt.alloc(), Sides::new(rt.alloc(), 3)?)
+}

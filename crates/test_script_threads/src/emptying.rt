@@ -1,0 +1,90 @@
+//! A cycle empties the pages that it chooses, and gives their frames back.
+
+use crate::recorder::Recorder;
+use crate::rows::HeldSettled;
+use crate::same::same;
+use cycle::{Actor, Answer, History, Step};
+use parser::parse;
+use script_threads::by_threads;
+use std::alloc::{AllocError, Global};
+use std::process::Abort;
+use std::sync::Wait;
+use std::test::Fail;
+use std::thread::Threads;
+
+/// Two pages of five objects, of which one lives in each: 3 words of 16.
+const PAGES: &str =
+    "heap words 16 frames 4 pages 8 threads 1 workers 2 registers 2 globals 2\nlayout 1 1\nt0 take 16\n\
+    t0 new r0 0\nt0 storeg 0 r0\ntimes 4\nt0 new r1 0\nend\nt0 give\nt0 take 16\nt0 new r0 0\n\
+    t0 storeg 1 r0\ntimes 4\nt0 new r1 0\nend\nt0 clear r0\nt0 clear r1\nw0 cycle ";
+
+/// Both pages are protected, copied and released: of 4 frames one is left for the objects that live.
+const BOTH: [Answer; 5] = [
+    Answer::Protected {
+        objects: 2,
+        targets: 1,
+    },
+    Answer::CopiedPage { copied: 1 },
+    Answer::Released { free: 2 },
+    Answer::CopiedPage { copied: 1 },
+    Answer::Released { free: 3 },
+];
+
+/// The answers of worker 0 to steps that move objects.
+fn moves(alloc: Global, history: &History) -> Result<Vec<Answer>, AllocError> {
+    let mut answers = Vec::new(alloc);
+    for index in 0..history.len() {
+        if let Some(found) = history.get(index) {
+            let entry = found.entry();
+            if matches!(
+                (entry.actor, &entry.step),
+                (
+                    Actor::Worker(0),
+                    Step::Protect(_) | Step::CopyPage(_) | Step::Release(_)
+                )
+            ) {
+                answers.push(entry.answer)?;
+            }
+        }
+    }
+    Ok(answers)
+}
+
+/// What a run has moved, and how many frames are free in the end.
+fn moved(
+    rt: &impl Abort,
+    alloc: Global,
+    held: impl HeldSettled + Drop,
+    answers: &[Answer],
+    free: u32,
+) -> Result<(), AllocError> {
+    let book = &held.settled().book;
+    let found = moves(alloc, book.history())?;
+    same(rt, found.as_slice(), answers);
+    same(rt, book.heap().memory().free_frames(), free);
+    Ok(())
+}
+
+/// A cycle that empties pages of which at most `percent` words of a hundred live.
+fn cycle<R: Abort + Threads + Wait + Sync>(
+    rt: &R,
+    alloc: Global,
+    percent: u32,
+    answers: &[Answer],
+    free: u32,
+) -> Result<(), Fail> {
+    let text = format!(in alloc; "{PAGES}{percent}\n")?;
+    let script = parse(alloc, text.as_str().as_bytes())?;
+    let recorder = Recorder::new(alloc, 1)?;
+    match by_threads(rt, alloc, &script, &recorder) {
+        Ok(settled) => moved(rt, alloc, settled, answers, free)?,
+        Err(_) => return Err("it isn't settled".into()),
+    }
+    Ok(())
+}
+
+#[test]
+fn pages_are_emptied(rt: HostRuntime) -> Result<(), Fail> {
+    cycle(&rt, rt.alloc(), 19, &BOTH, 3)?;
+    cycle(&rt, rt.alloc(), 18, &[], 2)
+}

@@ -1,0 +1,208 @@
+//! Writers that fail in each mode: at some write, or when they are flushed. Words, scripts and files are
+//! tested by the program itself.
+
+use cli::{AskFault, Asked, ask, serve};
+use std::alloc::Global;
+use std::io;
+use std::io::{BufWriter, Write};
+use std::process::Abort;
+use std::sync::Wait;
+use std::test::Fail;
+use std::thread::Threads;
+
+const SCRIPT: &str =
+    "heap words 16 frames 1 pages 1 threads 1 workers 1 registers 2 globals 0\nlayout 0 2\nt0 take 4\nt0 datum r1 0\n";
+
+const OUTPUT: &str =
+    "1 t0 lent 1.0\n2 t0 refused Null\nphase idle nmt 0 births 0 frames 1/1\npage 1 open frame 0 top 4 objects 0 live 0\nthread 0 running buffer 1.0-4 r0 - r1 -\nbarrier 0 loads 0 gc 0 nmt 0 healed 0 changed 0\n";
+
+/// What `check` writes: the same, and that the heap was verified twice.
+const CHECKED: &str =
+    "1 t0 lent 1.0\n2 t0 refused Null\nphase idle nmt 0 births 0 frames 1/1\npage 1 open frame 0 top 4 objects 0 live 0\nthread 0 running buffer 1.0-4 r0 - r1 -\nbarrier 0 loads 0 gc 0 nmt 0 healed 0 changed 0\nverified 2\n";
+
+/// What the words of a line ask for.
+fn words_asked(alloc: Global, line: &str) -> Result<Asked, AskFault> {
+    let mut words = Vec::new(alloc);
+    for word in line.split_whitespace() {
+        words.push(String::from_str(alloc, word)?)?;
+    }
+    ask(alloc, &words)
+}
+
+/// What is asked for: the words, what is written then, and in how many writes behind a buffer of 8 bytes.
+#[derive(Clone, Copy)]
+struct Script<'a> {
+    words: &'a str,
+    output: &'a str,
+    writes: u32,
+}
+
+/// Six lines, of which each is longer than the buffer.
+const RUN: Script<'static> = Script {
+    words: "run a.script",
+    output: OUTPUT,
+    writes: 6,
+};
+
+/// One line more.
+const CHECK: Script<'static> = Script {
+    words: "check a.script",
+    output: CHECKED,
+    writes: 7,
+};
+
+/// The first line comes in pieces: `thread 0`, ` births `, `0 data 0` and the line's end; the second at once.
+const THREADS: Script<'static> = Script {
+    words: "threads a.script",
+    output: "thread 0 births 0 data 0\nsettled\n",
+    writes: 5,
+};
+
+/// A writer that takes a number of writes, of each at most so many bytes, and fails at the next. When it
+/// is flushed it fails too, where it is made so.
+#[derive(Drop)]
+struct Failing {
+    left: u32,
+    most: usize,
+    is_flushed: bool,
+    failures: u32,
+    taken: Vec<u8>,
+}
+
+impl Write for Failing {
+    fn write(&mut self, buf: &[u8]) -> io::Result<usize> {
+        if self.left == 0 {
+            self.failures = self.failures.wrapping_add(1);
+            return Err(io::Error::from(io::ErrorKind::BrokenPipe));
+        }
+        self.left -= 1;
+        let taken = buf.get(..self.most).unwrap_or(buf);
+        self.taken.extend_from_slice(taken)?;
+        Ok(taken.len())
+    }
+
+    fn flush(&mut self) -> io::Result<()> {
+        if self.is_flushed {
+            Ok(())
+        } else {
+            Err(io::Error::from(io::ErrorKind::StorageFull))
+        }
+    }
+}
+
+/// A writer that takes so many writes, of each at most so many bytes, and can be flushed.
+fn made_to_fail(alloc: Global, left: u32, most: usize) -> Failing {
+    Failing {
+        left,
+        most,
+        is_flushed: true,
+        failures: 0,
+        taken: Vec::new(alloc),
+    }
+}
+
+/// What serving the script gives by such a writer, behind a buffer of so many bytes: the status, the
+/// writer, and the errors.
+fn served_by(
+    rt: &(impl Threads + Wait + Sync),
+    alloc: Global,
+    words: &str,
+    capacity: usize,
+    writer: Failing,
+) -> Result<(u8, Failing, Vec<u8>), Fail> {
+    let asked = words_asked(alloc, words)?;
+    let mut reader = SCRIPT.as_bytes();
+    let mut output = BufWriter::with_capacity(alloc, capacity, writer)?;
+    let mut errors = Vec::new(alloc);
+    let status = serve(rt, alloc, &asked, &mut reader, &mut output, &mut errors);
+    let (writer, _) = output.into_parts();
+    Ok((status, writer, errors))
+}
+
+/// Behind a buffer of so many bytes a writer that can't take all makes status 3 and its fault, takes a
+/// beginning of the output, and isn't asked again; another one takes all.
+fn is_told(
+    rt: &(impl Abort + Threads + Wait + Sync),
+    alloc: Global,
+    what: Script<'_>,
+    capacity: usize,
+    writer: Failing,
+    is_enough: bool,
+) -> Result<(), Fail> {
+    let (status, writer, errors) = served_by(rt, alloc, what.words, capacity, writer)?;
+    let (wanted, fault) = if is_enough {
+        (0, "")
+    } else {
+        (3, "pauseless: cannot write\n")
+    };
+    assert_eq!(rt; status, wanted);
+    assert_eq!(rt; writer.failures == 0, is_enough);
+    assert!(rt; writer.failures < 2);
+    assert_eq!(rt; writer.taken.len() == what.output.len(), is_enough);
+    assert!(rt; what.output.as_bytes().starts_with(&writer.taken));
+    assert_eq!(rt; errors.as_slice(), fault.as_bytes());
+    Ok(())
+}
+
+/// Behind a buffer of so many bytes so many writes are needed, where each takes at most so many bytes,
+/// and a fault of each is told.
+fn are_needed(
+    rt: &(impl Abort + Threads + Wait + Sync),
+    alloc: Global,
+    what: Script<'_>,
+    capacity: usize,
+    most: usize,
+    writes: u32,
+) -> Result<(), Fail> {
+    for left in 0..writes.wrapping_add(2) {
+        let writer = made_to_fail(alloc, left, most);
+        is_told(rt, alloc, what, capacity, writer, left >= writes)?;
+    }
+    Ok(())
+}
+
+/// What is written goes out line by line or in pieces behind a small buffer, and at once behind a large one.
+#[test]
+fn each_write_fails(rt: HostRuntime) -> Result<(), Fail> {
+    for what in [RUN, CHECK, THREADS] {
+        are_needed(&rt, rt.alloc(), what, 8, usize::MAX, what.writes)?;
+        are_needed(&rt, rt.alloc(), what, 8192, usize::MAX, 1)?;
+    }
+    Ok(())
+}
+
+/// A writer that takes a byte at a time gets all bytes, or those before its fault.
+#[test]
+fn each_short_write_fails(rt: HostRuntime) -> Result<(), Fail> {
+    for what in [RUN, CHECK, THREADS] {
+        let writes = what.output.len() as u32;
+        are_needed(&rt, rt.alloc(), what, 8, 1, writes)?;
+        are_needed(&rt, rt.alloc(), what, 8192, 1, writes)?;
+    }
+    Ok(())
+}
+
+/// A writer that fails when it is flushed, behind a buffer of so many bytes.
+fn flush_is_told(
+    rt: &(impl Abort + Threads + Wait + Sync),
+    alloc: Global,
+    what: Script<'_>,
+    capacity: usize,
+) -> Result<(), Fail> {
+    let mut writer = made_to_fail(alloc, 8, usize::MAX);
+    writer.is_flushed = false;
+    let (status, writer, errors) = served_by(rt, alloc, what.words, capacity, writer)?;
+    assert_eq!(rt; status, 3);
+    assert_eq!(rt; writer.taken.as_slice(), what.output.as_bytes());
+    assert_eq!(rt; errors.as_slice(), b"pauseless: cannot write\n".as_slice());
+    Ok(())
+}
+
+#[test]
+fn a_flush_fails(rt: HostRuntime) -> Result<(), Fail> {
+    for what in [RUN, CHECK, THREADS] {
+        flush_is_told(&rt, rt.alloc(), what, 8)?;
+        flush_is_told(&rt, rt.alloc(), what, 8192)?;
+    }
+    Ok(())
+}

@@ -1,0 +1,14 @@
+//! Images of heaps for tests: made up, changed, and judged by a slow verdict that was written from the
+//! definition. The calls have no contracts, so that the proofs of tests are short.
+#![tactic(auto)]
+
+mod edits;
+mod making;
+mod slow;
+
+pub use edits::{
+    entry, set_entry, set_frame, set_free, set_global, set_load, set_page, set_register, set_start,
+    set_word, shorten_starts, word,
+};
+pub use making::{add_entry, bare, put};
+pub use slow::slow_verdict;

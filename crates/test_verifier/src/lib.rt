@@ -1,0 +1,17 @@
+//! The tests of the verifier: on heaps, and on images with faults, planted or at random, compared with a slow verdict.
+#![tactic(auto)]
+
+#[cfg(test)]
+mod faults;
+#[cfg(test)]
+mod fields;
+#[cfg(test)]
+mod images;
+#[cfg(test)]
+mod random;
+#[cfg(test)]
+mod same;
+#[cfg(test)]
+mod stories;
+#[cfg(test)]
+mod verified;

@@ -1,0 +1,236 @@
+//! A thousand images with faults at random, beside the slow verdict.
+
+use crate::same::same;
+use model::PageState;
+use std::alloc::{AllocError, Global};
+use std::process::Abort;
+use std::test::Fail;
+use test_support_images::{
+    add_entry, bare, put, set_free, set_global, set_load, set_page, set_register, set_start,
+    set_word, shorten_starts, slow_verdict,
+};
+use test_support_samples::Dice;
+use verify::{Fault, Image, Root, Verdict, verify_image};
+
+/// One of the ways in which a page may be used.
+pub fn page_state(dice: &mut Dice) -> PageState {
+    match dice.roll(5) {
+        0 => PageState::Unused,
+        1 => PageState::Open,
+        2 => PageState::Closed,
+        3 => PageState::From,
+        _ => PageState::Gone,
+    }
+}
+
+/// No frame, or one of the first five.
+pub fn frame(dice: &mut Dice) -> Option<u32> {
+    if dice.hits(4) {
+        None
+    } else {
+        Some(dice.roll(5) as u32)
+    }
+}
+
+/// Null, or a word that names a place of the first three pages, with either bit.
+fn word(dice: &mut Dice) -> u64 {
+    let address = (dice.roll(3) + 1) * 16 + dice.roll(5) * 3;
+    match dice.roll(3) {
+        0 => 0,
+        1 => address,
+        _ => address + (1 << 63),
+    }
+}
+
+/// Mostly a word, but any number may come.
+pub fn value(dice: &mut Dice) -> u64 {
+    match dice.roll(8) {
+        0 => 1 << dice.roll(64),
+        1 => dice.roll(100),
+        _ => word(dice),
+    }
+}
+
+/// Objects of two pages at a place of each, of a birth of their own, and an old object of the first
+/// on the third page, which is copied.
+fn fill(image: &mut Image, dice: &mut Dice, place: u32) -> Result<(), AllocError> {
+    let offset = place.saturating_mul(3) as usize;
+    for (page, frame, birth) in [
+        (1, 0, place),
+        (2, 1, place.saturating_add(5)),
+        (3, 2, place),
+    ] {
+        put(image, (page, frame), offset, birth, dice.roll(2) as u8);
+        set_word(image, frame, offset.saturating_add(1), word(dice));
+        set_word(image, frame, offset.saturating_add(2), word(dice));
+    }
+    let to = (offset as u64).saturating_add(16);
+    add_entry(image, 3, (offset as u32, to, true))
+}
+
+/// A sound image of four pages: two of objects, one that is protected and may be gone, and one that
+/// is unused.
+fn sound(alloc: Global, dice: &mut Dice) -> Result<Image, AllocError> {
+    let mut image = bare(alloc, 4)?;
+    set_page(&mut image, 2, PageState::Closed, Some(1));
+    set_free(&mut image, 0, 2);
+    if dice.hits(2) {
+        set_page(&mut image, 3, PageState::Gone, None);
+        image.free.truncate(1);
+    } else {
+        set_page(&mut image, 3, PageState::From, Some(2));
+        image.free.clear();
+    }
+    for place in 0..5 {
+        fill(&mut image, dice, place)?;
+    }
+    Ok(image)
+}
+
+/// The roots name what may be named.
+fn root(image: &mut Image, dice: &mut Dice) {
+    for register in 0..2 {
+        set_register(image, 0, register, word(dice));
+    }
+    set_load(image, 1, Some(word(dice)));
+    set_global(image, word(dice));
+}
+
+/// Something of the pages and frames changes.
+fn spoil_pages(image: &mut Image, dice: &mut Dice) {
+    let state = page_state(dice);
+    let number = dice.roll(5) as usize;
+    match dice.roll(6) {
+        0 => set_page(image, number, state, None),
+        1 => set_page(image, number, state, Some(dice.roll(4) as u32)),
+        2 => set_free(image, 0, dice.roll(4) as u32),
+        3 => image.frame_count = dice.roll(5) as u32,
+        4 => image.words = 1 << dice.roll(6),
+        _ => image.frames.truncate(dice.roll(4) as usize),
+    }
+}
+
+/// Some list is too short.
+fn shorten(image: &mut Image, dice: &mut Dice) {
+    let length = dice.roll(16) as usize;
+    match dice.roll(4) {
+        0 => image.layouts.truncate(length),
+        1 => image.globals.truncate(length),
+        2 => shorten_starts(image, 1, length as u32),
+        _ => shorten_frame(image, length),
+    }
+}
+
+fn shorten_frame(image: &mut Image, length: usize) {
+    if !image.frames.is_empty() {
+        image.frames[0].words.truncate(length);
+    }
+}
+
+/// Something of the objects changes.
+fn spoil_objects(image: &mut Image, dice: &mut Dice) {
+    let place = dice.roll(5) as usize * 3;
+    let frame = dice.roll(3) as usize;
+    match dice.roll(4) {
+        0 => set_start(image, frame + 1, dice.roll(16) as usize, dice.hits(2)),
+        1 => set_word(image, frame, dice.roll(16) as usize, value(dice)),
+        2 => set_word(image, frame, place + 1, value(dice)),
+        _ => put(
+            image,
+            (frame + 1, frame),
+            place,
+            dice.roll(10) as u32,
+            dice.roll(4) as u8,
+        ),
+    }
+}
+
+/// Some root has another value.
+fn spoil_roots(image: &mut Image, dice: &mut Dice) {
+    match dice.roll(4) {
+        0 => set_register(
+            image,
+            dice.roll(2) as usize,
+            dice.roll(2) as usize,
+            value(dice),
+        ),
+        1 => set_load(image, dice.roll(2) as usize, Some(value(dice))),
+        _ => set_global(image, value(dice)),
+    }
+}
+
+/// Some side array has an entry more, or entries less.
+fn spoil_sides(image: &mut Image, dice: &mut Dice) -> Result<(), AllocError> {
+    if dice.hits(2) && image.pages.len() > 2 {
+        image.pages[2].side.truncate(dice.roll(5) as usize);
+    }
+    let copied = dice.hits(2);
+    let entry = (dice.roll(16) as u32, dice.roll(80), copied);
+    add_entry(image, dice.roll(5) as usize, entry)
+}
+
+/// One thing changes.
+fn spoil(image: &mut Image, dice: &mut Dice) -> Result<(), AllocError> {
+    match dice.roll(12) {
+        0 => spoil_pages(image, dice),
+        1 => shorten(image, dice),
+        2 | 3 => return spoil_sides(image, dice),
+        4 | 5 => spoil_roots(image, dice),
+        _ => spoil_objects(image, dice),
+    }
+    Ok(())
+}
+
+/// A sound image with roots.
+pub fn rooted(alloc: Global, dice: &mut Dice) -> Result<Image, AllocError> {
+    let mut image = sound(alloc, dice)?;
+    root(&mut image, dice);
+    Ok(image)
+}
+
+/// An image in which up to five things are changed.
+fn picture(alloc: Global, dice: &mut Dice) -> Result<Image, AllocError> {
+    let mut image = rooted(alloc, dice)?;
+    for _ in 0..dice.roll(6) {
+        spoil(&mut image, dice)?;
+    }
+    Ok(image)
+}
+
+/// The kind of a verdict: 0 where there is no fault.
+fn kind(verdict: Verdict) -> usize {
+    match verdict {
+        Verdict::Sound => 0,
+        Verdict::Faulty(Fault::Frames) => 1,
+        Verdict::Faulty(Fault::Root(Root::Register(_, _))) => 2,
+        Verdict::Faulty(Fault::Root(Root::Pending(_))) => 3,
+        Verdict::Faulty(Fault::Root(Root::Global(_))) => 4,
+        Verdict::Faulty(Fault::Field(_, _)) => 5,
+        Verdict::Faulty(Fault::Twins(_)) => 6,
+    }
+}
+
+/// Both verdicts on an image are the same; its kind.
+pub fn judged(rt: &impl Abort, alloc: Global, image: &Image) -> Result<usize, AllocError> {
+    let wanted = slow_verdict(alloc, image)?;
+    same(rt, verify_image(alloc, image), Ok(wanted));
+    Ok(kind(wanted))
+}
+
+/// Each kind comes up often.
+#[test]
+fn verdicts_agree(rt: HostRuntime) -> Result<(), Fail> {
+    let mut dice = Dice::new(2005);
+    let mut counts = [0usize; 7];
+    for _ in 0..1000 {
+        let image = picture(rt.alloc(), &mut dice)?;
+        let kind = judged(&rt, rt.alloc(), &image)?;
+        if kind < counts.len() {
+            counts[kind] = counts[kind].saturating_add(1);
+        }
+    }
+    for (kind, count) in counts.iter().enumerate() {
+        assert!(rt; *count >= 20, "{count} of kind {kind}");
+    }
+    Ok(())
+}

@@ -1,0 +1,20 @@
+//! What is found is what is wanted. An assertion of its own costs a test some seconds of proof, and
+//! one that is made here next to nothing.
+
+use portions::SharedHeap;
+use std::alloc::Global;
+use std::fmt::Debug;
+use std::process::Abort;
+use std::test::Fail;
+use test_support_threads::team::verifies;
+
+/// Two values are the same.
+pub fn same<T: PartialEq + Debug + Drop>(rt: &impl Abort, found: T, wanted: T) {
+    assert_eq!(rt; found, wanted);
+}
+
+/// A heap that was shared is sound.
+pub fn is_sound(rt: &impl Abort, alloc: Global, shared: SharedHeap) -> Result<(), Fail> {
+    same(rt, verifies(alloc, shared)?, true);
+    Ok(())
+}

@@ -1,0 +1,205 @@
+//! What a program calls on its heap.
+
+use crate::numbers::{Datum, Field, GlobalNumber, LayoutNumber, Register, Thread};
+use collecting::{Collected, Counters, Object, Policy, PolicyFault, Target};
+use managed::{FieldLoad, LoadsFault};
+use model::{Buffer, Refusal};
+use std::alloc::Global;
+
+/// What a program calls on its heap: the steps of `Mutating` and the calls of `Counting`, with typed numbers.
+/// Collections go by the heap's own policy and budget, continue its own increment, and count in its own counters.
+///
+/// Each call is as its contract says on a `TypedHeap`; a function that is generic over this trait knows nothing of what
+/// it calls, and is proved in short time. Each fails as the call that it names does, and a step that fails changes
+/// nothing. Lists of registers are plain numbers.
+pub trait HeapCalls {
+    /// Takes a buffer of 1 to the words of a page, as `Mutating::take`.
+    fn take(&mut self, thread: Thread, words: u32) -> Result<Buffer, Refusal>;
+
+    /// Returns the thread's buffer, as `Mutating::give_back`.
+    fn give_back(&mut self, thread: Thread) -> Result<(), Refusal>;
+
+    /// Makes an object in the thread's buffer, as `Mutating::new_object`. Returns its birth number.
+    fn new_object(
+        &mut self,
+        thread: Thread,
+        target: Register,
+        layout: LayoutNumber,
+    ) -> Result<u64, Refusal>;
+
+    /// Loads a reference field of an object into a register, through the read barrier, as `Holding::read`.
+    fn read(
+        &mut self,
+        thread: Thread,
+        target: Register,
+        object: Register,
+        field: Field,
+    ) -> Result<(), Refusal>;
+
+    /// Loads a global into a register, through the read barrier, as `Holding::read_global`.
+    fn read_global(
+        &mut self,
+        thread: Thread,
+        target: Register,
+        global: GlobalNumber,
+    ) -> Result<(), Refusal>;
+
+    /// Loads several reference fields of an object, up to the first that fails, as `Holding::loads`.
+    fn loads(
+        &mut self,
+        thread: Thread,
+        object: Register,
+        fields: &[FieldLoad],
+    ) -> Result<(), LoadsFault>;
+
+    /// Stores a register's reference in a field of an object, as `Mutating::store`.
+    fn store(
+        &mut self,
+        thread: Thread,
+        object: Register,
+        field: Field,
+        source: Register,
+    ) -> Result<(), Refusal>;
+
+    /// Stores a register's reference in a global, as `Mutating::store_global`.
+    fn store_global(
+        &mut self,
+        thread: Thread,
+        global: GlobalNumber,
+        source: Register,
+    ) -> Result<(), Refusal>;
+
+    /// Returns a data word of an object, as `Mutating::datum`.
+    fn datum(&self, thread: Thread, object: Register, index: Datum) -> Result<u64, Refusal>;
+
+    /// Writes a data word of an object, as `Mutating::set_datum`.
+    fn set_datum(
+        &mut self,
+        thread: Thread,
+        object: Register,
+        index: Datum,
+        value: u64,
+    ) -> Result<(), Refusal>;
+
+    /// Reads data words of an object, from word `first` on, as `Holding::get_many`.
+    fn get_many(
+        &self,
+        thread: Thread,
+        object: Register,
+        first: Datum,
+        values: &mut [u64],
+    ) -> Result<(), Refusal>;
+
+    /// Writes data words of an object, from word `first` on, as `Holding::set_many`.
+    fn set_many(
+        &mut self,
+        thread: Thread,
+        object: Register,
+        first: Datum,
+        values: &[u64],
+    ) -> Result<(), Refusal>;
+
+    /// Whether two registers name the same object, or both none, as `Mutating::same`.
+    fn same(&self, thread: Thread, left: Register, right: Register) -> Result<bool, Refusal>;
+
+    /// Whether a register is null, as `Mutating::is_null`.
+    fn is_null(&self, thread: Thread, register: Register) -> Result<bool, Refusal>;
+
+    /// Copies a register to another one, as `Mutating::copy_register`.
+    fn copy_register(
+        &mut self,
+        thread: Thread,
+        target: Register,
+        source: Register,
+    ) -> Result<(), Refusal>;
+
+    /// Makes a register null, as `Mutating::clear_register`.
+    fn clear_register(&mut self, thread: Thread, target: Register) -> Result<(), Refusal>;
+
+    /// Returns the birth, the layout and the sizes of the object that a register names, as `Holding::object`.
+    fn object(&self, thread: Thread, register: Register) -> Result<Object, Refusal>;
+
+    /// Parks the thread, as `Mutating::park`: it may do nothing but `unpark`.
+    fn park(&mut self, thread: Thread) -> Result<(), Refusal>;
+
+    /// Lets the thread run again, as `Mutating::unpark`.
+    fn unpark(&mut self, thread: Thread) -> Result<(), Refusal>;
+
+    /// Makes an object, for which the heap is collected if frames are low, as `Holding::make`. Returns its birth
+    /// number.
+    fn make(
+        &mut self,
+        alloc: Global,
+        thread: Thread,
+        target: Register,
+        layout: LayoutNumber,
+    ) -> Result<u64, Refusal>;
+
+    /// Makes an object as `make` does, and fills its first references from `sources`, which are numbers of registers,
+    /// and its first data words, as `Holding::make_with`.
+    fn make_with(
+        &mut self,
+        alloc: Global,
+        thread: Thread,
+        target: Register,
+        layout: LayoutNumber,
+        sources: &[u32],
+        nums: &[u64],
+    ) -> Result<u64, Refusal>;
+
+    /// Makes an object during a collection in parts, as `Holding::make_paced`: a fresh buffer's share of its parts comes
+    /// first. Returns the birth number.
+    fn make_paced(
+        &mut self,
+        alloc: Global,
+        thread: Thread,
+        target: Register,
+        layout: LayoutNumber,
+    ) -> Result<u64, Refusal>;
+
+    /// Makes an object as `make_paced` does, and fills it as `make_with` does.
+    fn make_with_paced(
+        &mut self,
+        alloc: Global,
+        thread: Thread,
+        target: Register,
+        layout: LayoutNumber,
+        sources: &[u32],
+        nums: &[u64],
+    ) -> Result<u64, Refusal>;
+
+    /// Takes a fresh buffer, for which the heap is collected if frames are low, as `Holding::refill`.
+    fn refill(&mut self, alloc: Global, thread: Thread) -> Result<Buffer, Refusal>;
+
+    /// Does a complete collection, as `Holding::collect` with the policy's `percent`.
+    fn collect(&mut self, alloc: Global) -> Result<Collected, Refusal>;
+
+    /// Does the next part of a collection, as `Holding::collect_some`. Returns whether the collection has ended.
+    fn collect_some(&mut self, alloc: Global) -> Result<bool, Refusal>;
+
+    /// Returns the policy by which the heap is collected.
+    fn policy(&self) -> Policy;
+
+    /// Sets the policy. Fails with the first field that is out of its range, and changes nothing then.
+    fn set_policy(&mut self, policy: Policy) -> Result<(), PolicyFault>;
+
+    /// Returns the budget: how many objects a part of a collection may scan.
+    fn budget(&self) -> u32;
+
+    /// Sets the budget: how many objects a part of a collection may scan, at least one.
+    fn set_budget(&mut self, budget: u32);
+
+    /// Returns what the collections of the heap have done.
+    fn counters(&self) -> Counters;
+
+    /// Returns how many frames' memory is kept for the next pages, as `Holding::kept_frames`.
+    fn kept_frames(&self) -> usize;
+
+    /// Returns memory of free frames to the allocator, but for that of `most` frames, as `Holding::trim`. Nothing of
+    /// the heap changes.
+    fn trim(&mut self, most: usize);
+
+    /// Sets a target by the frames in use, as `Holding::follow`, and returns memory that it does not allow. Nothing of
+    /// the heap changes.
+    fn follow(&mut self, target: &mut Target);
+}

@@ -1,0 +1,16 @@
+//! A heap that owns its policy, its increment and its counters, and whose calls take typed numbers.
+//!
+//! Numbers of a thread, a register, a field, a data word, a layout and a global are of different types, so a program
+//! that swaps two of different types does not compile. A typed number is its number and no byte more.
+#![tactic(auto)]
+
+mod acting;
+mod bulk;
+mod calls;
+mod numbers;
+mod owning;
+
+pub use bulk::BulkCalls;
+pub use calls::HeapCalls;
+pub use numbers::{Datum, Field, GlobalNumber, LayoutNumber, Register, Thread};
+pub use owning::{TypedHeap, USUAL_BUDGET};

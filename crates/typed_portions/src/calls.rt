@@ -1,0 +1,122 @@
+//! What a thread does in a portion, with typed numbers.
+
+use collecting::{Collected, Object, Policy};
+use managed::{FieldLoad, LoadsFault};
+use model::{Buffer, Refusal};
+use std::alloc::Global;
+use typed::{Datum, Field, GlobalNumber, LayoutNumber, Register};
+
+/// What a thread does in a portion: the calls of `portions::MutatorCalls`, with typed numbers, so that a call with two
+/// of different types swapped does not compile. Each call has the clauses of the call of `MutatorCalls` of the same
+/// name; a function that is generic over this trait knows nothing of what it calls, and is proved in short time. Lists
+/// of registers are plain numbers.
+///
+/// In a portion its thread runs, and between two calls neither a load nor a checkpoint is open, as `Mutator::law` says:
+/// so a step of the thread never stalls, and no thread has still to cross.
+pub trait PortionCalls {
+    /// Takes a buffer, as `Mutating::take`: `Memory` if memory for a fresh page was refused.
+    fn take(&mut self, words: u32) -> Result<Buffer, Refusal>;
+
+    /// Returns the buffer, as `Mutating::give_back`.
+    fn give_back(&mut self) -> Result<(), Refusal>;
+
+    /// Makes an object in the buffer, as `Mutating::new_object`.
+    fn new_object(&mut self, target: Register, layout: LayoutNumber) -> Result<u64, Refusal>;
+
+    /// Loads a reference field of an object into a register, as `Holding::read`.
+    fn read(&mut self, target: Register, object: Register, field: Field) -> Result<(), Refusal>;
+
+    /// Loads a global into a register, as `Holding::read_global`.
+    fn read_global(&mut self, target: Register, global: GlobalNumber) -> Result<(), Refusal>;
+
+    /// Stores a register's reference in a field of an object, as `Mutating::store`.
+    fn store(&mut self, object: Register, field: Field, source: Register) -> Result<(), Refusal>;
+
+    /// Stores a register's reference in a global, as `Mutating::store_global`.
+    fn store_global(&mut self, global: GlobalNumber, source: Register) -> Result<(), Refusal>;
+
+    /// Returns a data word of an object, as `Mutating::datum`.
+    fn datum(&self, object: Register, index: Datum) -> Result<u64, Refusal>;
+
+    /// Writes a data word of an object, as `Mutating::set_datum`.
+    fn set_datum(&mut self, object: Register, index: Datum, value: u64) -> Result<(), Refusal>;
+
+    /// Whether two registers name the same object, or both none, as `Mutating::same`.
+    fn same(&self, left: Register, right: Register) -> Result<bool, Refusal>;
+
+    /// Whether a register is null, as `Mutating::is_null`.
+    fn is_null(&self, register: Register) -> Result<bool, Refusal>;
+
+    /// Copies a register to another one, as `Mutating::copy_register`.
+    fn copy_register(&mut self, target: Register, source: Register) -> Result<(), Refusal>;
+
+    /// Makes a register null, as `Mutating::clear_register`.
+    fn clear_register(&mut self, target: Register) -> Result<(), Refusal>;
+
+    /// Returns the object that a register names, as `Holding::object`.
+    fn object(&self, register: Register) -> Result<Object, Refusal>;
+
+    /// Loads several reference fields of an object, as `Holding::loads`.
+    fn loads(&mut self, object: Register, fields: &[FieldLoad]) -> Result<(), LoadsFault>;
+
+    /// Reads data words of an object, from word `first` on, as `Holding::get_many`.
+    fn get_many(&self, object: Register, first: Datum, values: &mut [u64]) -> Result<(), Refusal>;
+
+    /// Writes data words of an object, from word `first` on, as `Holding::set_many`.
+    fn set_many(&mut self, object: Register, first: Datum, values: &[u64]) -> Result<(), Refusal>;
+
+    /// Copies `count` data words of the source's object, from word `first_of_source` on, to the target's object, from
+    /// word `first` on, as `Holding::copy_data`.
+    fn copy_data(
+        &mut self,
+        target: Register,
+        first: Datum,
+        source: Register,
+        first_of_source: Datum,
+        count: usize,
+    ) -> Result<(), Refusal>;
+
+    /// Reads bytes of an object's data, from byte `offset` on, as `Holding::read_bytes`.
+    fn read_bytes(&self, object: Register, offset: u32, bytes: &mut [u8]) -> Result<(), Refusal>;
+
+    /// Writes bytes of an object's data, from byte `offset` on, as `Holding::write_bytes`.
+    fn write_bytes(&mut self, object: Register, offset: u32, bytes: &[u8]) -> Result<(), Refusal>;
+
+    /// Makes an object, with the room that it needs, as `Holding::make`: `Memory` if memory for a fresh page was
+    /// refused. All threads cross the checkpoint that its collection has left open, if there is one.
+    fn make(
+        &mut self,
+        alloc: Global,
+        policy: Policy,
+        target: Register,
+        layout: LayoutNumber,
+    ) -> Result<u64, Refusal>;
+
+    /// Makes an object and fills it, as `Holding::make_with`. All threads cross the checkpoint that its collection
+    /// has left open, if there is one.
+    fn make_with(
+        &mut self,
+        alloc: Global,
+        policy: Policy,
+        target: Register,
+        layout: LayoutNumber,
+        sources: &[u32],
+        nums: &[u64],
+    ) -> Result<u64, Refusal>;
+
+    /// Takes a fresh buffer, for which the heap is collected if frames run low, as `Holding::refill`: `Memory` if
+    /// memory for a fresh page was refused. All threads cross the checkpoint that its collection has left open, if
+    /// there is one.
+    fn refill(&mut self, alloc: Global, policy: Policy) -> Result<Buffer, Refusal>;
+
+    /// Collects the heap, as `Holding::collect`. All threads cross the checkpoint that it has left open, if
+    /// there is one.
+    fn collect(&mut self, alloc: Global, percent: u32) -> Result<Collected, Refusal>;
+
+    /// Returns how many frames' memory is kept for the next pages, as `Holding::kept_frames`.
+    fn kept_frames(&self) -> usize;
+
+    /// Gives memory of free frames back to the allocator, but for that of `most` frames, as `Holding::trim`. Nothing of
+    /// the heap changes.
+    fn trim(&mut self, most: usize);
+}
