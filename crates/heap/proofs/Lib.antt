@@ -12,3 +12,4 @@ pub mod TakenBuffers
 pub mod GivenRows
 pub mod Found
 pub mod Compared
+pub mod Sizes

@@ -3,13 +3,14 @@
 //!
 //! They are for the crate that implements the steps of relocation. Pages count from 1.
 
-ghost use Rattle.std.specs.Prelude.{◌≡◌, ◌-◌, ◌<◌, ◌^◌, false, slice_set, IfOk};
+ghost use Rattle.std.specs.Prelude.{◌≡◌, ◌+◌, ◌-◌, ◌*◌, ◌<◌, ◌≤◌, ◌^◌, false, slice_get, slice_set, IfOk, IfSome, Some};
+ghost use Rattle.model.specs.Data.{header_layout, layout_in};
 ghost use Rattle.model.specs.Holding.{AreRising, GoesToPage};
 ghost use Rattle.model.specs.Moves.{with_released};
 ghost use Rattle.model.specs.Owning.{Each};
-ghost use Rattle.model.specs.Plans.{object_words};
+ghost use Rattle.model.specs.Plans.{object_words, words_of};
 ghost use Rattle.model.specs.Protections.{has_twice};
-ghost use Rattle.model.specs.Stores.{state_at};
+ghost use Rattle.model.specs.Stores.{state_at, words_at};
 ghost use Rattle.model.specs.declared.records.PageState.TheVariants.{Closed, From};
 ghost use Rattle.model.specs.declared.records.Phase.TheVariants.{Idle};
 ghost use Rattle.heap.specs.Opening.{IsBlank};
@@ -18,19 +19,57 @@ ghost use Rattle.heap.specs.Relocating.{OpensTarget, start_protection};
 use crate::heap::Heap;
 use crate::heap::opening::{PageMemory, PageRows, open_indexed_row, open_row};
 use forward::Side;
+use layout::layout_of;
 use model::{Buffer, Phase, Room};
 use refword::Addr;
 use std::alloc::AllocError;
 
+/// Returns the word at an offset of a page's words, if it exists.
+#[inline(always)]
+fn word_in(words: &[u64], offset: usize) -> Option<u64>
+    ensures { result ≡ slice_get words.now offset }
+{
+    words.get(offset).copied()
+}
+
 impl Heap {
     /// Returns how many words the object at an address has: 1 to 2,047. One that can't be read counts as its header
     /// alone.
-    #[tactic(auto, unfolding(model::specs::Plans::object_words))]
+    #[tactic(auto, unfolding(model::specs::Plans::object_words, model::specs::Data::layout_at))]
     pub fn object_words(&self, address: Addr) -> u32
         ensures value { result ≡ object_words self.now address }
         ensures range { result < 2 ^ 17 }
     {
-        match self.layout_at(address) {
+        self.header_words(self.store.first_word(address))
+    }
+
+    /// Returns the same for the object at an offset of a page whose words were looked up. If they weren't, as the page
+    /// has no memory, it looks for the object by its address.
+    #[inline(always)]
+    pub fn object_words_on(&self, page: u32, words: Option<&[u64]>, offset: u32) -> u32
+        requires low { 0 < page }
+        requires high { page ≤ self.now.store.count }
+        requires within { offset < self.now.store.words }
+        requires words { IfSome words (λ ws. words_at self.now.store page ≡ Some ws.now) }
+        ensures value { result ≡ object_words self.now (page * self.now.store.words + offset) }
+        ensures range { result < 2 ^ 17 }
+    {
+        match words {
+            None => self.object_words(self.address_on(page, offset)),
+            Some(words) => self.header_words(word_in(words, offset as usize)),
+        }
+    }
+
+    /// Returns how many words an object with a header has: its header alone if there is none of a layout.
+    #[inline(always)]
+    fn header_words(&self, header: Option<u64>) -> u32
+        ensures value { result ≡ words_of (layout_in self.now.config.layouts (header_layout header)) }
+        ensures range { result < 2 ^ 17 }
+    {
+        let Some(header) = header else {
+            return 1;
+        };
+        match self.config.layouts.get(layout_of(header)) {
             None => 1,
             Some(layout) => layout.size(),
         }
