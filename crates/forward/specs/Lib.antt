@@ -4,3 +4,4 @@ pub mod Ranked
 pub mod Searching
 pub mod Settling
 pub mod Noting
+pub mod Planning

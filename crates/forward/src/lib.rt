@@ -2,9 +2,11 @@
 #![tactic(auto)]
 
 mod plan;
+mod planning;
 mod side;
 mod sides;
 
 pub use plan::{Plan, Slot};
+pub use planning::Planning;
 pub use side::Side;
 pub use sides::Sides;

@@ -6,14 +6,15 @@ ghost use Rattle.model.specs.Owning.{Each};
 ghost use Rattle.model.specs.Plans.{places_from, target_count};
 ghost use Rattle.forward.specs.Places.{ArePlanned};
 
+use crate::planning::Planning;
 use std::alloc::{AllocError, Global};
 use std::marker::Model;
 
 /// The place of an object that moves: a target, and an offset in it, in words.
 #[derive(Clone, Copy, Debug, PartialEq, Eq)]
 pub struct Slot {
-    target: usize,
-    offset: u32,
+    pub(crate) target: usize,
+    pub(crate) offset: u32,
 }
 
 impl Model for Slot {
@@ -45,9 +46,9 @@ impl Slot {
 /// The places of objects, in their order. A target is an empty page.
 #[derive(Debug, Drop)]
 pub struct Plan {
-    slots: Vec<Slot, Global>,
+    pub(crate) slots: Vec<Slot, Global>,
     /// How many targets the places are in.
-    count: usize,
+    pub(crate) count: usize,
 }
 
 impl Model for Plan {
@@ -69,21 +70,11 @@ impl Plan {
         ensures places { IfOk result (λ p. p ≡ places_from words 0 0 sizes.now) }
         ensures planned { IfOk result (λ p. Each sizes.now (λ n. n ≤ words) → ArePlanned words sizes.now p) }
     {
-        let mut slots = Vec::with_capacity(alloc, sizes.len())?;
-        let mut target = 0;
-        let mut offset = 0;
-        let mut count = 0;
+        let mut planning = Planning::new(alloc, sizes.len())?;
         for index in 0..sizes.len() {
-            let size = sizes[index];
-            if u64::from(offset) + u64::from(size) > u64::from(words) {
-                target += 1;
-                offset = 0;
-            }
-            slots.push(Slot { target, offset })?;
-            count = target + 1;
-            offset += size;
+            planning.push(words, sizes[index])?;
         }
-        Ok(Plan { slots, count })
+        Ok(planning.finish())
     }
 
     /// Returns how many places there are.
