@@ -67,10 +67,11 @@ fn pack_row(heap: &Heap, page: u32, row: &Row, before: Packing) -> Packing
     ensures offset { result.offset < 2 ^ 17 }
 {
     let words = heap.memory().page_words();
+    let memory = heap.memory().words(page);
     let mut packing = before;
     let mut from = 0;
     while let Some(offset) = row.next_from(from) {
-        let size = heap.object_words(heap.address_on(page, offset));
+        let size = heap.object_words_on(page, memory, offset);
         packing = pack_one(words, packing, size);
         from = offset as usize + 1;
     }

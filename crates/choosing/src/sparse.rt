@@ -18,10 +18,11 @@ fn row_words(heap: &Heap, page: u32, row: &Row) -> u64
     ensures range { result ≤ 131071 * 32768 }
 {
     let _ = heap.memory().page_words();
+    let memory = heap.memory().words(page);
     let mut total = 0u64;
     let mut from = 0;
     while let Some(offset) = row.next_from(from) {
-        total += heap.object_words(heap.address_on(page, offset)) as u64;
+        total += u64::from(heap.object_words_on(page, memory, offset));
         from = offset as usize + 1;
     }
     total

@@ -1,7 +1,7 @@
 -- The offsets of live objects are found one after another.
 use Rattle.std.proofs.Common.{◌≡◌, ℕ, zero, suc, ◌+◌, ◌-◌, ◌<◌, ◌≤◌, Bool, true, false, List, [], ◌∷◌, ◌++◌, length}
 use Rattle.std.proofs.Common.{map}
-use Rattle.std.proofs.Common.{drop, get_or, refl, sym, ◌∙◌, ap, ap₂, arith, append_assoc, append-nil}
+use Rattle.std.proofs.Common.{drop, get_or, refl, sym, ◌∙◌, ap, ap₂, arith}
 use Rattle.std.proofs.lemmas.Bool.{true≢false}
 use Rattle.std.specs.List.{slice_get}
 use Rattle.std.proofs.Common.{Some, None}
@@ -10,7 +10,10 @@ use Rattle.model.specs.Holding.{IsHeap}
 use Rattle.model.proofs.Tables.{row_short}
 use Rattle.model.specs.States.{HeapState}
 use Rattle.model.specs.Plans.{offsets_from, live_offsets}
+use Rattle.forward.specs.Planning.{PlanningState, planned}
 use Rattle.relocate.specs.Drafts.{draft_of, draft_entry, draft_size, draft_sizes}
+use Rattle.std.specs.Prelude.{replicate, count_by}
+use Rattle.forward.proofs.Ranked.{offsets_many}
 use Rattle.markbits.specs.Words.{IsFirstFrom}
 
 -- from a place on, the first set bit comes before those after it
@@ -55,16 +58,28 @@ pub left_none : (bits : List Bool) (i : ℕ) → ((j : ℕ) → i ≤ j → get_
     → offsets_from i (drop i bits) ≡ []
 left_none bits i none = offsets_none bits i i none
 
--- one more offset moves from what is left to the end of what is done
-pub taken_over : {X : Type 0} (f : ℕ → X) (done now whole : List X) (left rest : List ℕ) (k : ℕ) → left ≡ k ∷ rest
-    → now ≡ done ++ f k ∷ [] → done ++ map f left ≡ whole → now ++ map f rest ≡ whole
-taken_over f done now whole left rest k is put h =
-    ap (λ xs. xs ++ map f rest) put ∙ append_assoc done (f k ∷ []) (map f rest)
-    ∙ ap (λ xs. done ++ map f xs) (sym is) ∙ h
+-- the place of one more object is planned
+pub planned_next : (w v : ℕ) (f : ℕ → ℕ) (p q : PlanningState) (whole : List ℕ → List (ℕ × ℕ)) (left rest : List ℕ)
+    (k n : ℕ) → v ≡ w → left ≡ k ∷ rest → n ≡ f k → ((ns : List ℕ) → planned v q ns ≡ planned v p (n ∷ ns))
+    → ((ns : List ℕ) → planned w p (map f left ++ ns) ≡ whole ns)
+    → (ns : List ℕ) → planned w q (map f rest ++ ns) ≡ whole ns
+planned_next w v f p q whole left rest k n same is size more so_far ns =
+    ap (λ x. planned x q (map f rest ++ ns)) (sym same) ∙ more (map f rest ++ ns)
+    ∙ ap₂ (λ x m. planned x p (m ∷ map f rest ++ ns)) same size
+    ∙ ap (λ xs. planned w p (map f xs ++ ns)) (sym is) ∙ so_far ns
 
-pub all_taken : {X : Type 0} (f : ℕ → X) (done whole : List X) (left : List ℕ) → left ≡ [] → done ++ map f left ≡ whole
-    → done ≡ whole
-all_taken f done whole left none h = sym (append-nil done) ∙ ap (λ xs. done ++ map f xs) (sym none) ∙ h
+-- none is left
+pub planned_all : (w : ℕ) (f : ℕ → ℕ) (p : PlanningState) (whole : List ℕ → List (ℕ × ℕ)) (left : List ℕ) → left ≡ []
+    → ((ns : List ℕ) → planned w p (map f left ++ ns) ≡ whole ns) → (ns : List ℕ) → planned w p ns ≡ whole ns
+planned_all w f p whole left none so_far ns = ap (λ xs. planned w p (map f xs ++ ns)) (sym none) ∙ so_far ns
+
+-- a page's head, as often as it has live objects
+pub heads_are : (row : List Bool) (a : ℕ) → replicate (count_by (λ b. b) row) a ≡ map (λ o. a) (offsets_from 0 row)
+heads_are row a = ap (λ n. replicate n a) (sym (offsets_many 0 row)) ∙ each (offsets_from 0 row)
+  where
+    each : (os : List ℕ) → replicate (length os) a ≡ map (λ o. a) os
+    each [] = refl
+    each (o ∷ os) = ap (λ xs. a ∷ xs) (each os)
 
 module _ (h : HeapState) (n : ℕ) (low : 0 < n) where
   pub none_drafted : slice_get h.live (n - 1) ≡ None → ([] ≡ draft_of h n) × ([] ≡ draft_sizes h n)

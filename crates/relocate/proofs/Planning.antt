@@ -118,7 +118,7 @@ pub drafts_rise : (h : HeapState) (pages : List ℕ) → IsHeap h
 unfolding live_offsets
 drafts_rise h [] d i fs e = absurd (cc)
 drafts_rise h (n ∷ ns) d zero fs e = subst (AreRising h.config.words 0) (same_Some _ _ e)
-    (side_rises h.config.words 0 (of_page h.live n) (address_of h n) (row_on h.live n
+    (side_rises h.config.words 0 (of_page h.live n) (λ o. address_of h n 0) (row_on h.live n
     (λ i row a. omega (arith, row_short h.store h.live i row d.live a, d.sizes.words))))
   where
     row_on : (rows : List (List Bool)) (n : ℕ) → Each rows (λ row. length row ≤ h.config.words)

@@ -144,15 +144,15 @@ planned_moves h pages targets long once =
 -- entries and their places
 
 -- the entries of a page whose objects begin at these offsets are settled, followed by those of later pages
-entries_settled : (words start : ℕ) (targets : List ℕ) (moves : List (ℕ × ℕ)) (offsets later : List ℕ)
+entries_settled : (words start head : ℕ) (targets : List ℕ) (moves : List (ℕ × ℕ)) (offsets later : List ℕ)
     (ps : List (ℕ × ℕ)) → AreMoved moves (map (λ o. start + o) offsets ++ later) (map (address_in words targets) ps)
     → map (λ o. record { offset = o; to = place_of moves (start + o); copied = false }) offsets
-    ≡ with_places words targets ps (map (λ o. record { offset = o; to = start + o; copied = false }) offsets)
-entries_settled words start targets moves [] later ps k = refl
-entries_settled words start targets moves (o ∷ os) later [] k = absurd k
-entries_settled words start targets moves (o ∷ os) later (p ∷ ps) (here, rest) = λ i.
+    ≡ with_places words targets ps (map (λ o. record { offset = o; to = head; copied = false }) offsets)
+entries_settled words start head targets moves [] later ps k = refl
+entries_settled words start head targets moves (o ∷ os) later [] k = absurd k
+entries_settled words start head targets moves (o ∷ os) later (p ∷ ps) (here, rest) = λ i.
     record { offset = o; to = here i; copied = false }
-    ∷ entries_settled words start targets moves os later ps rest i
+    ∷ entries_settled words start head targets moves os later ps rest i
 
 -- the objects of later pages go to the places after them
 moved_behind : (words start : ℕ) (targets : List ℕ) (moves : List (ℕ × ℕ)) (offsets later : List ℕ)
@@ -168,7 +168,8 @@ side_settled : (h : HeapState) (targets : List ℕ) (moves : List (ℕ × ℕ)) 
     → side_of h moves n ≡ with_places h.store.words targets ps (draft_of h n)
 unfolding side_of
 side_settled h targets moves n later ps k =
-    entries_settled h.store.words (n * h.store.words) targets moves (live_offsets h n) later ps k
+    entries_settled h.store.words (n * h.store.words) (n * h.store.words + 0) targets moves (live_offsets h n) later ps
+    k
 
 -- pages and their places
 

@@ -8,9 +8,9 @@ use Rattle.model.specs.Plans.{live_offsets, object_words, address_in}
 abbrev pub address_of : HeapState → ℕ → ℕ → ℕ
 address_of h n o = n * h.store.words + o
 
--- the entry of the object at an offset of page n, before places are known: its place is where it is
+-- the entry of the object at an offset of page n, before places are known: it goes to the head of the page
 abbrev pub draft_entry : HeapState → ℕ → ℕ → Forwarding
-draft_entry h n o = record { offset = o; to = address_of h n o; copied = false }
+draft_entry h n o = record { offset = o; to = address_of h n 0; copied = false }
 
 -- the entries of page n, before places are known
 abbrev pub draft_of : HeapState → ℕ → List Forwarding

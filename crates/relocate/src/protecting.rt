@@ -44,10 +44,9 @@ fn prepare(alloc: Global, heap: &Heap, pages: &[u32]) -> Result<Preparation, All
     ensures room { IfOk result (λ p. target_count (plan_of heap.now pages.now) ≤ vec_capacity p.targets) }
 {
     let draft = draft_pages(alloc, heap, pages)?;
-    let plan = Plan::new(alloc, heap.memory().page_words(), &draft.sizes)?;
-    let targets = Vec::with_capacity(alloc, plan.targets())?;
+    let targets = Vec::with_capacity(alloc, draft.plan.targets())?;
     Ok(Preparation {
-        plan,
+        plan: draft.plan,
         sides: draft.sides,
         targets,
     })

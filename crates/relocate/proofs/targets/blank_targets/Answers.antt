@@ -1,4 +1,4 @@
-use Rattle.std.proofs.Common.{◌≡◌, ◌∙◌, subst, ap}
+use Rattle.std.proofs.Common.{◌∙◌, subst}
 use Rattle.model.specs.States.{HeapState}
 use Rattle.heap.specs.Opening.{IsBlank}
 use Rattle.relocate.proofs.Opening.{one_more}
