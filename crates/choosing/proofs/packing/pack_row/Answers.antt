@@ -1,5 +1,4 @@
 use Rattle.std.proofs.Common.{ap, ◌∙◌, subst, arith}
-use Rattle.model.specs.Plans.{object_words}
 use Rattle.model.specs.Stores.{StoreState}
 use Rattle.markbits.specs.Words.{IsNextPlace}
 use Rattle.relocate.proofs.Offsets.{left_next, left_none}
@@ -20,7 +19,7 @@ loop-offset-preserved c =
           (left_next row c.loop-offset.from k first) c.loop-offset.invariant.0
           (c.pack_one-packing.ensures.value ∙ (λ i. pack_one ((c.page_words-words.ensures.value
           ∙ ap (λ (s : StoreState). s.words) c.memory.ensures) i) c.loop-offset.packing
-          ((c.object_words-size.ensures.value ∙ ap (object_words h) c.address_on.ensures) i))),
+          (c.object_words_on-size.ensures.value i))),
       omega (arith, c.loop-offset.invariant.1, c.pack_one-packing.ensures.targets, first.low),
       c.pack_one-packing.ensures.offset,
       omega (arith, near),
