@@ -14,10 +14,10 @@ use std::alloc::{AllocError, Global};
 use std::fmt;
 use std::marker::Model;
 
-/// Accepted steps with their answers, oldest first. An entry takes 32 bytes; that of `Protect`, and
-/// of a step with an answer that it never has in a heap, takes 64 more, and the list (ours).
+/// Accepted steps with their answers, oldest first. An entry takes 32 bytes. That of `Protect`, and of a step with an
+/// answer that it never has in a heap, takes 64 more, and the memory of its list.
 ///
-/// A contract sees the list of the entries, and whether there is room for one more.
+/// A contract sees the list of the entries, and whether there is space for one more.
 #[derive(Drop)]
 pub struct History {
     kept: Blocks,
@@ -133,7 +133,7 @@ impl History {
 }
 
 impl fmt::Debug for History {
-    /// How many entries there are, and none of them: a book may have a million.
+    /// Writes the number of entries, and none of them: a recorded heap may have a million.
     fn fmt<W: fmt::Write>(&self, f: &mut fmt::Formatter<W>) -> fmt::Result {
         f.debug_struct("History")
             .field("len", &self.len())
