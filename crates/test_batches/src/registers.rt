@@ -37,7 +37,7 @@ fn datum(thread: u32, register: u32) -> u64 {
     u64::from(thread.wrapping_mul(100).wrapping_add(register))
 }
 
-/// An object in a register of a thread, behind four that nobody keeps, with which it fills a page.
+/// An object in a register of a thread, after four that are garbage, with which it fills a page.
 fn fill(alloc: Global, heap: &mut impl Holding, thread: u32, register: u32) -> Result<(), Refusal> {
     for _ in 0..5 {
         heap.make(alloc, POLICY, thread, register, 0)?;
@@ -66,7 +66,7 @@ fn reads(rt: &impl Abort, heap: &impl Holding, thread: u32) {
     }
 }
 
-/// Behind each part with this budget each register can be read, until two collections have ended.
+/// After each part with this budget each register can be read, until two collections have ended.
 fn by_parts(
     rt: &impl Abort,
     alloc: Global,
@@ -87,7 +87,7 @@ fn by_parts(
     Ok(())
 }
 
-/// Behind a whole collection each register can be read, but for those of a thread that was parked: the next part
+/// After a complete collection each register can be read, but for those of a thread that was parked: the next part
 /// corrects these.
 fn whole(rt: &impl Abort, alloc: Global, mut heap: impl Holding + Drop) -> Result<(), Fail> {
     fill_all(alloc, &mut heap)?;

@@ -28,7 +28,7 @@ fn collect(
     Ok(())
 }
 
-/// Behind so many parts an object goes into the list; behind some more collections the list is whole.
+/// After so many parts an object goes into the list; after some more collections the list is whole.
 fn stays(
     rt: &impl Abort,
     alloc: Global,
@@ -54,7 +54,7 @@ fn one_load_between(rt: HostRuntime) -> Result<(), Fail> {
     Ok(())
 }
 
-/// Behind each part an object goes into the list, and the list is whole.
+/// After each part an object goes into the list, and the list is whole.
 fn goes_on(rt: &impl Abort, alloc: Global, mut heap: impl Holding + Drop) -> Result<(), Fail> {
     let mut parts = Parts::new(alloc);
     insert_all(alloc, &mut heap)?;

@@ -141,7 +141,7 @@ fn dead_pages_by_one_collection(rt: HostRuntime) -> Result<(), Fail> {
     Ok(())
 }
 
-/// Behind a collection that has emptied all pages no number is free. A buffer is there all the same, also for a thread
+/// After a collection that has emptied all pages no number is free. A buffer is there all the same, also for a thread
 /// that has one.
 fn refills(rt: &impl Abort, alloc: Global, mut heap: impl Paged + Drop) -> Result<(), Fail> {
     let policy = Policy {

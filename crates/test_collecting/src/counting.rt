@@ -47,7 +47,7 @@ fn most_parts(budget: u32) -> u32 {
         .wrapping_add(1)
 }
 
-/// The parts of one collection, of which at most so many are done. Gives how many there were, the last one with it.
+/// The parts of one collection, of which at most so many are done. Returns how many there were, the last one with it.
 pub fn count_parts(
     alloc: Global,
     heap: &mut impl Holding,
@@ -63,7 +63,7 @@ pub fn count_parts(
     Ok(most.wrapping_add(1))
 }
 
-/// So many collections, each of which has an end within its parts. Gives how many parts they had.
+/// So many collections, each of which has an end within its parts. Returns how many parts they had.
 fn collections(
     rt: &impl Abort,
     alloc: Global,
@@ -82,8 +82,8 @@ fn collections(
     Ok(sum)
 }
 
-/// Four collections of a list beside which as many objects are dead, with this budget. Gives how many parts the first
-/// one had.
+/// Four collections of a list beside which as many objects are dead, with this budget. Returns how many parts the
+/// first one had.
 fn counts(
     rt: &impl Abort,
     alloc: Global,

@@ -1,4 +1,4 @@
-//! Marks that run while objects are still to be copied, and while the worker has an object.
+//! Marks that run while objects are uncopied, and while the worker has an object.
 
 use crate::same::same;
 use collecting::{Collected, Holding, Parts};
@@ -24,13 +24,13 @@ trait Marking: Holding {
     /// At most so many scans of worker 0.
     fn scan(&mut self, most: u64) -> Result<bool, Refusal>;
 
-    /// A whole drain by worker 0.
+    /// A complete drain by worker 0.
     fn drain(&mut self) -> Result<(), Refusal>;
 
     /// What is left of a mark, by worker 0.
     fn finish_mark(&mut self) -> Result<u64, Refusal>;
 
-    /// How many objects are still to be copied, and whether worker 0 has an object.
+    /// How many objects are uncopied, and whether worker 0 has an object.
     fn progress(&self) -> (u64, bool);
 }
 
@@ -79,9 +79,8 @@ fn fill(heap: &mut impl Marking) -> Result<(), Refusal> {
     heap.clear_register(ME, NEXT)
 }
 
-/// That list, of which the pages were protected, in a mark that the thread has crossed. Worker 0 has marked
-/// the 64 globals and has the head of the list, which the crossing has copied; nine objects are still to be
-/// copied.
+/// That list, of which the pages were protected, in a mark that the thread has crossed. Worker 0 has marked the 64
+/// globals and has the head of the list, which the crossing has copied; nine objects are uncopied.
 fn mark_halfway(rt: &impl Abort, alloc: Global, heap: &mut impl Marking) -> Result<(), Fail> {
     fill(heap)?;
     heap.work(&Step::StartMark)?;

@@ -14,7 +14,7 @@ const KEPT: u32 = 0;
 
 const LOST: u32 = 1;
 
-/// Parts up to the end of a collection, at most so many. Gives how many they were.
+/// Parts up to the end of a collection, at most so many. Returns how many they were.
 fn collect(
     alloc: Global,
     heap: &mut impl Holding,

@@ -34,7 +34,7 @@ fn policy(free: u32) -> Policy {
     }
 }
 
-/// Makes so many objects that nobody keeps, not even in a register. Gives how few frames were free at least.
+/// Makes so many objects that are garbage, not even in a register. Returns how few frames were free at least.
 fn waste(alloc: Global, heap: &mut impl Framed, free: u32, count: u32) -> Result<u32, Refusal> {
     let mut least = u32::MAX;
     for _ in 0..count {
@@ -56,7 +56,7 @@ fn where_the_policy_says(rt: HostRuntime) -> Result<(), Fail> {
     collects(&rt, rt.alloc(), new_heap(rt.alloc(), 8, 16)?)
 }
 
-/// Where it is collected at one free frame, six pages of five objects are all there behind them.
+/// Where it is collected at one free frame, six pages of five objects are all there after them.
 fn waits(rt: &impl Abort, alloc: Global, mut heap: impl Framed + Drop) -> Result<(), Fail> {
     same(rt, waste(alloc, &mut heap, 1, 30), Ok(2));
     same(rt, heap.free_frames(), 2);
@@ -68,7 +68,7 @@ fn only_there(rt: HostRuntime) -> Result<(), Fail> {
     waits(&rt, rt.alloc(), new_heap(rt.alloc(), 8, 16)?)
 }
 
-/// Makes `count` objects that nobody keeps, while the heap is collected in parts. Returns the fewest frames that were
+/// Makes `count` objects that are garbage, while the heap is collected in parts. Returns the fewest frames that were
 /// free after one.
 fn waste_paced(alloc: Global, heap: &mut impl Framed, count: u32) -> Result<u32, Refusal> {
     let mut parts = Parts::new(alloc);

@@ -16,7 +16,7 @@ const KEPT: u32 = 0;
 
 const LOST: u32 = 1;
 
-/// Makes so many objects that nobody keeps, not even in a register.
+/// Makes so many objects that are garbage, not even in a register.
 fn waste_all(
     alloc: Global,
     heap: &mut impl Holding,
@@ -30,7 +30,7 @@ fn waste_all(
     Ok(())
 }
 
-/// Makes so many objects that nobody keeps, but for the last one.
+/// Makes so many objects that are garbage, but for the last one.
 fn waste(alloc: Global, heap: &mut impl Holding, frames: u32, count: u32) -> Result<(), Refusal> {
     for _ in 0..count {
         heap.make(alloc, Policy::usual(16, frames), ME, LOST, 0)?;
@@ -134,7 +134,7 @@ fn full(rt: HostRuntime) -> Result<(), Fail> {
     fills(&rt, rt.alloc(), new_heap(rt.alloc(), 3, 6)?)
 }
 
-/// A thread inside a load keeps a collection from its end; behind the load it goes on.
+/// A thread inside a load keeps a collection from its end; after the load it goes on.
 fn waits(rt: &impl Abort, alloc: Global, mut heap: impl Holding + Drop) -> Result<(), Fail> {
     heap.make(alloc, Policy::usual(16, 3), ME, KEPT, 0)?;
     heap.load(ME, LOST, KEPT, 0)?;

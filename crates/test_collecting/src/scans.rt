@@ -32,7 +32,7 @@ impl Marked for ManagedHeap {
     }
 }
 
-/// Scans until nothing is left, at most so often. Gives how many steps that took.
+/// Scans until nothing is left, at most so often. Returns how many steps that took.
 fn scan_all(heap: &mut impl Marked, most: u32) -> Result<u32, Refusal> {
     for done in 0..most {
         if heap.scan_one()? {

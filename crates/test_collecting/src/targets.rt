@@ -66,7 +66,7 @@ impl Framed for ManagedHeap {
     }
 }
 
-/// Makes objects that nobody keeps, by a target. Returns how many frames were used at most.
+/// Makes objects that are garbage, by a target. Returns how many frames were used at most.
 fn waste(alloc: Global, heap: &mut impl Framed, target: &mut Target) -> Result<usize, Refusal> {
     let mut most = 0;
     for _ in 0..500 {

@@ -22,7 +22,7 @@ fn policy(free: u32) -> Policy {
     }
 }
 
-/// Makes so many objects that nobody keeps, each filled with one number.
+/// Makes so many objects that are garbage, each filled with one number.
 fn waste(
     alloc: Global,
     heap: &mut impl Counting,

@@ -1,5 +1,5 @@
-//! Calls that are done in one go: on a heap that isn't collected each of them is, also while a thread has loaded. Their
-//! contracts allow that nothing is done; the call behind each then does it.
+//! Calls that are done in one go: on a heap that isn't collected each of them is, also while a thread has loaded.
+//! Their contracts allow that nothing is done; the call after each then does it.
 
 use crate::same::same;
 use collecting::{Holding, Policy};

@@ -26,7 +26,7 @@ pub trait Moving {
     /// The next step of a mark's scan, if one is left; whether it was.
     fn scan(&mut self) -> Result<bool, Refusal>;
 
-    /// Its phase, whether its thread has crossed, and how many objects have still to be copied.
+    /// Its phase, whether its thread has crossed, and how many objects have uncopied.
     fn progress(&self) -> (Phase, bool, u64);
 
     /// The text of its image.

@@ -45,7 +45,7 @@ fn work<R: Wait>(
     portion.datum(0, 0)
 }
 
-/// A whole collection between portions; a part that lacks memory is done again.
+/// A complete collection between portions; a part that lacks memory is done again.
 fn collect<R: Wait>(
     rt: &R,
     alloc: Global,

@@ -28,7 +28,7 @@ fn found_bank(alloc: Global, mutator: &mut impl MutatorCalls) -> Result<(), Refu
     mutator.store_global(0, 0)
 }
 
-/// Moves one coin, and leaves an object that nobody keeps.
+/// Moves one coin, and leaves an object that are garbage.
 fn transfer(
     alloc: Global,
     mutator: &mut impl MutatorCalls,

@@ -29,7 +29,7 @@ fn words_asked(alloc: Global, line: &str) -> Result<Asked, AskFault> {
     ask(alloc, &words)
 }
 
-/// What is asked for: the words, what is written then, and in how many writes behind a buffer of 8 bytes.
+/// What is asked for: the words, what is written then, and in how many writes after a buffer of 8 bytes.
 #[derive(Clone, Copy)]
 struct Script<'a> {
     words: &'a str,
@@ -101,8 +101,8 @@ fn made_to_fail(alloc: Global, left: u32, most: usize) -> Failing {
     }
 }
 
-/// What serving the script gives by such a writer, behind a buffer of so many bytes: the status, the
-/// writer, and the errors.
+/// What serving the script gives by such a writer, after a buffer of so many bytes: the status, the writer, and the
+/// errors.
 fn served_by(
     rt: &(impl Threads + Wait + Sync),
     alloc: Global,
@@ -119,8 +119,8 @@ fn served_by(
     Ok((status, writer, errors))
 }
 
-/// Behind a buffer of so many bytes a writer that can't take all makes status 3 and its fault, takes a
-/// beginning of the output, and isn't asked again; another one takes all.
+/// After a buffer of so many bytes a writer that can't take all makes status 3 and its fault, takes a beginning of
+/// the output, and isn't asked again; another one takes all.
 fn is_told(
     rt: &(impl Abort + Threads + Wait + Sync),
     alloc: Global,
@@ -144,8 +144,8 @@ fn is_told(
     Ok(())
 }
 
-/// Behind a buffer of so many bytes so many writes are needed, where each takes at most so many bytes,
-/// and a fault of each is told.
+/// After a buffer of so many bytes so many writes are needed, where each takes at most so many bytes, and a fault of
+/// each is told.
 fn are_needed(
     rt: &(impl Abort + Threads + Wait + Sync),
     alloc: Global,
@@ -161,7 +161,7 @@ fn are_needed(
     Ok(())
 }
 
-/// What is written goes out line by line or in pieces behind a small buffer, and at once behind a large one.
+/// What is written goes out line by line or in pieces after a small buffer, and at once after a large one.
 #[test]
 fn each_write_fails(rt: HostRuntime) -> Result<(), Fail> {
     for what in [RUN, CHECK, THREADS] {
@@ -182,7 +182,7 @@ fn each_short_write_fails(rt: HostRuntime) -> Result<(), Fail> {
     Ok(())
 }
 
-/// A writer that fails when it is flushed, behind a buffer of so many bytes.
+/// A writer that fails when it is flushed, after a buffer of so many bytes.
 fn flush_is_told(
     rt: &(impl Abort + Threads + Wait + Sync),
     alloc: Global,

@@ -22,7 +22,7 @@ fn chooses(
     Ok(())
 }
 
-/// Behind a script's steps no page is chosen by one limit, and the first one by another.
+/// After a script's steps no page is chosen by one limit, and the first one by another.
 fn finds(
     rt: &impl Abort,
     alloc: Global,

@@ -15,7 +15,7 @@ use test_support_books::{
     HEAD, HeldBook, HeldTable, MARKED, Table, act_all, ask, book_of, script_of, seat_of, table_of,
 };
 
-/// Behind a whole mark six objects of one list, of which the next mark has to scan all.
+/// After a complete mark six objects of one list, of which the next mark has to scan all.
 const UNSCANNED: &str =
     "t1 take 16\ntimes 5\nt1 new r1 0\nt1 store r1 0 r0\nt1 mov r0 r1\nend\nt1 give\nw0 mark\nt0 cross\n\
     t1 cross\n";

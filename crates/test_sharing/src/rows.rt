@@ -4,7 +4,7 @@ use crate::mirror::{mirrors, mirrors_stopped};
 use std::test::Fail;
 use test_support_books::{HEAD, LINKED, MARKED, ROOMY, WHOLE_PAGES};
 
-/// Both threads scrub a register behind the crossings.
+/// Both threads scrub a register after the crossings.
 const SCRUBBED: &str =
     "w0 protect 1\nt0 cross\nt0 datum r0 0\nw0 copy 1 0\nt1 set r0 0 9\nt1 cross\nt1 datum r0 0\nt1 scrub r0\n\
     t0 scrub r0\nt0 datum r0 0\nt1 datum r0 0\n";

@@ -1,4 +1,4 @@
-//! Stops of shared books, and waits for a step that is refused for a while.
+//! Stops of shared books, and waits for a step that stalls.
 
 use crate::same::same;
 use cycle::{Actor, Answer, Reply, Step};
@@ -19,13 +19,13 @@ use test_support_books::{
 /// The marked object's page is protected, and one thread of two has crossed: it may not use the object yet.
 const HALF_CROSSED: &str = "w0 protect 1\nt0 cross\n";
 
-/// The step that is refused for a while.
+/// The step that stalls.
 const READ: Step = Step::Datum {
     object: 0,
     index: 0,
 };
 
-/// A table behind a script's steps.
+/// A table after a script's steps.
 fn behind<R: Threads + Wait + Sync, T: HeldTable + Drop>(
     rt: &R,
     alloc: Global,
@@ -80,7 +80,7 @@ fn sees_stop(rt: &(impl Abort + Wait), alloc: Global, table: &Table) -> Result<(
     Ok(())
 }
 
-/// A step that is refused for a while is refused so, by a stopped book also where it is waited for.
+/// A step that stalls is refused so, by a stopped book also where it is waited for.
 fn stalls<R: Abort + Wait>(rt: &R, shared: &Shared, seat: &mut Seat) {
     same(rt, shared.step(rt, seat, READ), Err(Refusal::Stall));
     same(rt, shared.step_wait(rt, seat, READ), Err(Refusal::Stall));
@@ -120,7 +120,7 @@ fn linger(asking: &AtomicU64) {
     }
 }
 
-/// Asks for the step, and waits where it is refused for a while.
+/// Asks for the step, and waits where it stalls.
 fn wait<R: Wait>(rt: &R, shared: &Shared, seat: &mut Seat, asking: &AtomicU64) -> Reply {
     asking.store(1, Ordering::SeqCst);
     shared.step_wait(rt, seat, READ)
@@ -191,7 +191,7 @@ fn a_stop_ends_a_wait(rt: HostRuntime) -> Result<(), Fail> {
     wakes_by_stop(&rt, half_crossed(&rt, rt.alloc())?)
 }
 
-/// At a table a thread waits, and is woken by a crossing, behind which the register is to be scrubbed first.
+/// At a table a thread waits, and is woken by a crossing, after which the register is to be scrubbed first.
 fn wakes_by_step<R: Abort + Threads + Wait + Sync>(rt: &R, mut held: impl HeldTable + Drop) {
     let table = held.table();
     let replies = first_waits(rt, &table.shared, &mut table.seats);

@@ -106,7 +106,7 @@ fn chooses(rt: &impl Abort, alloc: Global, heap: &Heap) -> Result<(), AllocError
     Err(AllocError)
 }
 
-/// The same of a book behind a script's steps.
+/// The same of a book after a script's steps.
 fn chooses_behind(
     rt: &impl Abort,
     alloc: Global,

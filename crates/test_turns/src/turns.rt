@@ -131,7 +131,7 @@ fn free_frames(mutator: &Mutator) -> u32 {
     mutator.heap().heap().memory().free_frames()
 }
 
-/// Makes objects that nobody keeps, until few frames are free.
+/// Makes objects that are garbage, until few frames are free.
 fn spend(alloc: Global, mutator: &mut Mutator) -> Result<(), Refusal> {
     for _ in 0..FRAMES * 64 {
         if free_frames(mutator) <= LOW {

@@ -159,7 +159,7 @@ fn spoil_roots(image: &mut Image, dice: &mut Dice) {
     }
 }
 
-/// Some side array has an entry more, or entries less.
+/// Some forwarding table has an entry more, or entries less.
 fn spoil_sides(image: &mut Image, dice: &mut Dice) -> Result<(), AllocError> {
     if dice.hits(2) && image.pages.len() > 2 {
         image.pages[2].side.truncate(dice.roll(5) as usize);

@@ -19,7 +19,7 @@ trait Telling {
     /// A step of an actor.
     fn act(&mut self, actor: Actor, step: Step) -> Reply;
 
-    /// A whole load.
+    /// A complete load.
     fn load(&mut self, alloc: Global, actor: Actor, load: Step) -> Result<(), Refusal>;
 
     /// All steps of a worker that scan.
