@@ -4,7 +4,7 @@
 use std::fmt::Debug;
 use std::process::Abort;
 
-/// Two values are the same.
+/// Asserts that two values are equal.
 pub fn same<T: PartialEq + Debug + Drop>(rt: &impl Abort, found: T, wanted: T) {
     assert_eq!(rt; found, wanted);
 }

@@ -8,7 +8,7 @@ use std::process::Abort;
 use std::test::Fail;
 use test_support_threads::team::verifies;
 
-/// Two values are the same.
+/// Asserts that two values are equal.
 pub fn same<T: PartialEq + Debug + Drop>(rt: &impl Abort, found: T, wanted: T) {
     assert_eq!(rt; found, wanted);
 }

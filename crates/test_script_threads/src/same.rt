@@ -4,12 +4,12 @@
 use std::fmt::{Debug, Display};
 use std::process::Abort;
 
-/// Two values are the same.
+/// Asserts that two values are equal.
 pub fn same<T: PartialEq + Debug + Drop>(rt: &impl Abort, found: T, wanted: T) {
     assert_eq!(rt; found, wanted);
 }
 
-/// Two values of a place are the same.
+/// Asserts that two values of a place are equal.
 pub fn same_at<P: Display + Drop, T: PartialEq + Debug + Drop>(
     rt: &impl Abort,
     place: P,

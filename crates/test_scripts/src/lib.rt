@@ -1,4 +1,4 @@
-//! The tests of scripts that the program can't show: how they are read, what runs of them write where memory or a
+//! The tests of scripts that the program can't do: how they are read, what their runs write if out of memory or if a
 //! writer fails, and texts that no output has.
 #![tactic(auto)]
 
