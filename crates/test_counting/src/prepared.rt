@@ -105,8 +105,8 @@ fn fill(alloc: Global, heap: &mut impl Framed) -> Result<(), Refusal> {
     heap.give_back(ME)
 }
 
-/// The 300 live words take 19 pages, and one more for what stays free at their ends. So 20 frames are prepared, at most
-/// `most` by one part. Of 40 pages all but two are emptied, into 19 frames, none of which is allocated then.
+/// The 300 live words take 19 pages, and one more for what stays free at their ends. So 20 frames are prepared, at
+/// most `most` by one part. Of 40 pages all but two are emptied, into 19 frames, none of which is allocated then.
 fn prepares(
     rt: &impl Abort,
     alloc: Global,

@@ -1,5 +1,4 @@
-//! What is left where memory is refused: these tests are run with each of their requests for memory
-//! refused in turn.
+//! The library when out of memory: these tests are run with each of their allocations failing in turn.
 #![tactic(auto)]
 
 #[cfg(test)]

@@ -1,5 +1,5 @@
-//! What is left of books that are shared, or lent to their seats, where memory is refused: these tests are
-//! run with each of their requests for memory refused in turn.
+//! Recorded heaps that are shared, or borrowed by their seats, when out of memory: these tests are run with each of
+//! their allocations failing in turn.
 #![tactic(auto)]
 
 #[cfg(test)]
