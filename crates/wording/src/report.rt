@@ -30,8 +30,8 @@ impl fmt::Display for BitText {
     }
 }
 
-/// The first line: the phase, the clean NMT bit, the births, and how many of the frames are used, as `phase idle nmt
-/// 0 births 1 frames 1/4`.
+/// The first line: the phase, the clean NMT bit, the births, and how many of the frames are used, as
+/// `phase idle nmt 0 births 1 frames 1/4`.
 #[derive(Clone, Copy, Debug, PartialEq, Eq)]
 pub struct HeadLine {
     /// The phase of the collector's cycle.
