@@ -1,4 +1,5 @@
-//! Relocation-set selection: closed pages with few live words, up to the free frames and unused pages.
+//! Relocation-set selection: the closed pages with the fewest live words for which there are free frames and unused
+//! pages.
 #![tactic(auto)]
 
 mod choosing;

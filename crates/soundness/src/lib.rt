@@ -1,5 +1,5 @@
-//! The image of a heap is sound. There is no code here. One function without a body has this as its clause, and a
-//! crate that needs it calls it.
+//! The proof that the image of a heap is sound. There is no code here. One function without a body has this as its
+//! clause, and a crate that needs it calls it.
 //!
 //! The verifier (`verify`) knows nothing of the collector: an image is memory and roots as plain data, and soundness
 //! is defined for any data. The collector's own invariant (`refinement`, `laws`) is about the state of a heap. This

@@ -1,5 +1,4 @@
-//! Recorded heaps that are shared, or borrowed by their seats, when out of memory: these tests are run with each of
-//! their allocations failing in turn.
+//! Tests of shared or borrowed recorded heaps when out of memory: each allocation of a test fails in turn.
 #![tactic(auto)]
 
 #[cfg(test)]
