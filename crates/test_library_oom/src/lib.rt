@@ -1,4 +1,4 @@
-//! The library when out of memory: these tests are run with each of their allocations failing in turn.
+//! Tests of the library when out of memory: each allocation of a test fails in turn.
 #![tactic(auto)]
 
 #[cfg(test)]
