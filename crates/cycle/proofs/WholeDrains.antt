@@ -67,7 +67,7 @@ module _
     (rs : List Reply) (k n : ℕ) (b : BookState) (w : ℕ) (all : Told) (end : Result Unit Refusal)
     (left : IsLeft rs k b w all end) (count : k ≡ suc n)
   where
-    -- nothing is grey
+    -- no step is left
     pub left_end : next_drain b.heap w ≡ None → IsDone rs b all end (Ok tt)
     left_end next = no_steps rs k b w all end left (drained_next k n b w None count next)
 

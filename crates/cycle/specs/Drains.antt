@@ -1,4 +1,4 @@
--- Mark drains: the scanning steps of a worker, one after another, until nothing is grey or one is rejected.
+-- Mark drains: the scanning steps of a worker, one after another, until none is left or one is rejected.
 use Rattle.std.specs.Prelude.{◌≡◌, ℕ, zero, suc, ◌+◌, List, [], ◌∷◌, Option, Some, None, Result, Ok, Err}
 use Rattle.model.specs.declared.steps.Actor.TheVariants.{Worker}
 use Rattle.model.specs.declared.steps.Step.{Step}

@@ -25,7 +25,7 @@ pub record Told : Type 0 where
 abbrev pub tell : BookState → List Reply → Told
 tell b replies = record { book = b; replies = replies }
 
--- a step of this outcome, and what follows if it is accepted; an error ends the load
+-- a step of this outcome, and what follows if it is accepted; nothing follows an error
 unfoldable pub step_then : BookState → BookOutcome → (BookState → Answer → Told) → Told
 step_then b (Ok x) next = tell (next x.0 x.1).book (Ok x.1 ∷ (next x.0 x.1).replies)
 step_then b (Err e) next = tell b (Err e ∷ [])

@@ -1,4 +1,4 @@
-//! Mark drains: the scanning steps of a worker, until nothing is grey or a step is rejected.
+//! Mark drains: the scanning steps of a worker, until none is left or one is rejected.
 
 ghost use Rattle.std.specs.Prelude.{◌≡◌, ◌<◌, ◌^◌, position, is_some, IfOk, IfSome, OnErr, OnOk};
 ghost use Rattle.model.specs.declared.records.Global.{Global};
