@@ -75,7 +75,7 @@ impl<T: Drop> From<AllocFailed<T>> for AskFault {
 
 impl AskFault {
     /// Returns the error if the words of the command line can't be read: `Memory` if out of memory, else `Usage`, for
-    /// a word that isn't UTF-8.
+    /// a word that isn't UTF-8, as no file with such a name can be opened.
     pub fn of_words(error: &io::Error) -> AskFault
         ensures memory { result ≡ Memory → error_kind error.now ≡ OutOfMemory }
         ensures usage { result ≡ Usage → error_kind error.now ≢ OutOfMemory }
