@@ -185,7 +185,7 @@ fn ninths(sides: &Sides) -> [Option<u64>; 6] {
     PAGES.map(|page| Some(sides.entry_at(u64::from(page), 9)?.to.number()))
 }
 
-/// The offset of the fourth entry of each of these pages, if it has so many.
+/// The offset of the fourth entry of each of these pages, if it has four.
 fn fourths(sides: &Sides) -> [Option<u32>; 6] {
     PAGES.map(|page| Some(sides.entry_on(page, 3)?.offset))
 }
