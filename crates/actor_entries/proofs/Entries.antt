@@ -1,4 +1,4 @@
--- Entries that are one and the same.
+-- Entries that are equal.
 use Rattle.std.proofs.Common.{◌≡◌, ◌≢◌, ℕ, Bool, true, false, true≢false, List, refl, sym, ap, ◌∙◌, nat_eq}
 use Rattle.std.proofs.Common.{slice_get}
 use Rattle.std.proofs.Common.{Option, Some, None}

@@ -1,4 +1,4 @@
--- Lists against what a history has of an actor, entry by entry.
+-- Lists compared with what a history has of an actor, entry by entry.
 use Rattle.std.proofs.Common.{◌≡◌, ◌≢◌, ◌<◌, ◌≤◌, ◌+◌, ℕ, Bool, true, false, true≢false, List, [], ◌∷◌, ◌++◌, get_or}
 use Rattle.std.proofs.Common.{length, append-nil, take, drop, sym, refl, ap, ◌∙◌, subst, arith}
 use Rattle.std.proofs.Common.{if◌then◌else◌}
@@ -24,7 +24,7 @@ past_end [] i near at = omega (arith, near)
 past_end (x ∷ xs) zero near at = true≢false (ap is_there at)
 past_end (x ∷ xs) (suc i) near at = past_end xs i (omega (arith, near)) at
 
--- the entry of a number, which is there
+-- the entry of a number, which exists
 abbrev pub IsAt : List Entry → ℕ → Entry → Type 0
 IsAt h i e = Some e ≡ slice_get h i
 
@@ -35,7 +35,7 @@ module _ (a : Actor) (h : List Entry) (i : ℕ) (e : Entry) (at : IsAt h i e) wh
   is_read : get_or h i e ≡ e
   is_read = get_or_from_slice_get h i e e (sym at)
 
-  -- the history up to behind it
+  -- the history up to an entry and with it
   one_more : take (i + 1) h ≡ take i h ++ e ∷ []
   one_more = take_more h i e near ∙ ap (λ (z : Entry). take i h ++ z ∷ []) is_read
 
@@ -45,7 +45,7 @@ module _ (a : Actor) (h : List Entry) (i : ℕ) (e : Entry) (at : IsAt h i e) wh
       ap (part_of a) one_more ∙ filter-append (λ (d : Entry). is_same d.actor a) (take i h) (e ∷ [])
       ∙ ap (λ (c : Bool). part_of a (take i h) ++ (if c then e ∷ [] else [])) is
 
-  -- what is left of the history, where the next entry is the actor's
+  -- the rest of the history, if the next entry is the actor's
   rest_of : is_same e.actor a ≡ true → part_of a h ≡ part_of a (take i h) ++ e ∷ part_of a (drop (i + 1) h)
   rest_of is =
       ap (part_of a) (sym (take-append-drop i h)) ∙ filter-append (λ (d : Entry). is_same d.actor a) (take i h)
@@ -61,7 +61,7 @@ kept : (a : Actor) (h list : List Entry) (i n : ℕ) (e : Entry) → IsAt h i e 
     → part_of a (take (i + 1) h) ≡ take n list
 kept a h list i n e at is so = chosen a h i e at false is ∙ append-nil (part_of a (take i h)) ∙ so
 
--- the next entry is the actor's, and the list has it
+-- the next entry is the actor's, and the list has it there
 next_kept : (a : Actor) (h list : List Entry) (i n : ℕ) (e : Entry) → IsAt h i e → is_same e.actor a ≡ true
     → part_of a (take i h) ≡ take n list → slice_get list n ≡ Some e
     → part_of a (take (i + 1) h) ≡ take (n + 1) list
@@ -81,7 +81,7 @@ missing a h list i n e at is so fits other same =
     ∙ ap (λ k. slice_get (part_of a (take i h) ++ e ∷ part_of a (drop (i + 1) h)) k) (sym len)
     ∙ seam (part_of a (take i h)) e (part_of a (drop (i + 1) h)))
 
--- all entries were looked at, and the list has no more
+-- all entries were compared, and the list has no more
 pub whole : (a : Actor) (h list : List Entry) (i n : ℕ) → length h ≤ i → part_of a (take i h) ≡ take n list → n
     ≡ length list → list ≡ part_of a h
 whole a h list i n ends so all =
@@ -93,7 +93,7 @@ too_long a h list i n ends so fits less same =
     less (sym (length-take-le n list fits) ∙ ap length (sym so) ∙ ap (λ l. length (part_of a l)) (take_all i h ends)
     ∙ ap length (sym same))
 
--- the history's next entry was passed
+-- the history's next entry was compared
 pub passes_at : (list : List Entry) (n : ℕ) (a : Actor) (h : List Entry) (i : ℕ) (e : Entry) (next : Option ℕ)
     → IsAt h i e → HasPartTo list n a h i → Passes list n a e next
     → MatchOption next (list ≢ part_of a h) (λ m. HasPartTo list m a h (i + 1))
@@ -110,7 +110,7 @@ passes_at list n a h i e (Some m) at so p = ⊎_elim
           (sym t.2) (next_fits list n e t.1),
     )) p
 
--- an entry that is the actor's is all that there is of it
+-- the entry is the actor's, so it is the actor's part
 pub one_kept : (a : Actor) (e : Entry) → is_same e.actor a ≡ true → part_of a (e ∷ []) ≡ e ∷ []
 one_kept a e is = ap (λ (b : Bool). if b then e ∷ [] else []) is
 
@@ -118,7 +118,7 @@ pub one_passed : (a : Actor) (e : Entry) (list : List Entry) → is_same e.actor
     ≡ list ++ part_of a (e ∷ [])
 one_passed a e list is = sym (ap (λ (b : Bool). list ++ (if b then e ∷ [] else [])) is ∙ append-nil list)
 
--- a list that is made takes the actor's entries
+-- the list that is made gets the actor's entries
 pub part_more : (a : Actor) (h list new : List Entry) (i : ℕ) → i < length h → list ≡ part_of a (take i h)
     → IfSome (slice_get h i) (λ e. new ≡ list ++ part_of a (e ∷ [])) → new ≡ part_of a (take (i + 1) h)
 part_more a h list new i near so more = by (slice_get h i) refl more

@@ -1,4 +1,4 @@
--- Codes of steps: the number of its kind, its numbers, and its list. No two steps have one code.
+-- Codes of steps: the number of the kind, the step's numbers, and its list. No two steps have the same code.
 use Rattle.std.specs.Prelude.{ℕ, List, []}
 use Rattle.model.specs.declared.steps.Step.{Step}
 use Rattle.model.specs.declared.steps.Step.TheVariants as steps
@@ -11,7 +11,7 @@ pub record Code : Type 0 where
   pub third : ℕ
   pub list : List ℕ
 
--- a code as it is kept
+-- the code of a `Coded`
 abbrev pub coded : Coded → Code
 coded c = record { kind = c.kind; first = c.first; second = c.second; third = c.third; list = c.list.now }
 

@@ -1,11 +1,11 @@
-//! Actors, compared.
+//! Comparing actors.
 
 ghost use Rattle.std.specs.Prelude.{◌≡◌};
 ghost use Rattle.actor_entries.specs.Parts.{is_before, is_same};
 
 use model::Actor;
 
-/// Whether two actors are one and the same.
+/// Returns whether two actors are the same.
 #[tactic(auto, unfolding(crate::specs::Parts::is_same))]
 pub fn is_same(left: Actor, right: Actor) -> bool
     ensures { result ≡ is_same left right }
@@ -17,7 +17,8 @@ pub fn is_same(left: Actor, right: Actor) -> bool
     }
 }
 
-/// Whether an actor comes before another one: threads are before workers, each in their order.
+/// Returns whether an actor comes before another one: threads come before workers, each in the order of their
+/// numbers.
 #[tactic(auto, unfolding(crate::specs::Parts::is_before))]
 pub fn is_before(left: Actor, right: Actor) -> bool
     ensures { result ≡ is_before left right }

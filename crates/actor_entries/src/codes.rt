@@ -15,7 +15,7 @@ pub(crate) struct Coded<'a> {
     list: &'a [u32],
 }
 
-/// The code of a step that has these numbers.
+/// Returns the code of a step that has these numbers.
 fn numbers<'a>(kind: u8, first: u32, second: u32, third: u64) -> Coded<'a>
     ensures { coded result ≡ record { kind = kind; first = first; second = second; third = third; list = [] } }
 {
@@ -28,7 +28,7 @@ fn numbers<'a>(kind: u8, first: u32, second: u32, third: u64) -> Coded<'a>
     }
 }
 
-/// The code of a step that has this list.
+/// Returns the code of a step that has this list.
 fn list(kind: u8, list: &[u32]) -> Coded<'_>
     ensures { coded result ≡ record { kind = kind; first = 0; second = 0; third = 0; list = list.now } }
 {
@@ -41,7 +41,7 @@ fn list(kind: u8, list: &[u32]) -> Coded<'_>
     }
 }
 
-/// The code of a step.
+/// Returns the code of a step.
 pub(crate) fn code(step: &Step) -> Coded<'_>
     ensures { coded result ≡ code_of step.now }
 {
@@ -92,7 +92,7 @@ pub(crate) fn code(step: &Step) -> Coded<'_>
 }
 
 impl Coded<'_> {
-    /// Whether two codes are one and the same.
+    /// Returns whether two codes are equal.
     pub(crate) fn is(&self, other: &Coded) -> bool
         ensures { MatchBool result (coded self.now ≡ coded other.now) (coded self.now ≢ coded other.now) }
     {

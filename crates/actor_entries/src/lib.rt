@@ -1,5 +1,5 @@
-//! Parts of histories: what one actor did, in order. Here are copies of steps, whether two entries
-//! are one and the same, and whether a list is what a history has of an actor.
+//! Parts of histories: the entries of one actor, in order. Copies steps, compares entries, and tests whether a list
+//! is an actor's part of a history.
 #![tactic(auto)]
 
 mod actors;

@@ -1,4 +1,4 @@
-//! Lists against what a history has of an actor.
+//! Lists compared with an actor's part of a history.
 
 ghost use Rattle.std.specs.Prelude.{◌≡◌, ◌≢◌, ◌<◌, ◌≤◌, ◌+◌, ◌++◌, ◌∷◌, [], Some, length, slice_get};
 ghost use Rattle.std.specs.Prelude.{IfOk, IfSome, OnOk, MatchBool, MatchOption};
@@ -11,7 +11,7 @@ use entries::{Entry, History};
 use model::Actor;
 use std::alloc::{AllocError, Global};
 
-/// Whether two entries are one and the same.
+/// Returns whether two entries are equal.
 #[tactic(auto, using(crate::proofs::Entries::same_entry, crate::proofs::Entries::other_actor, crate::proofs::Entries::other_step, crate::proofs::Entries::other_answer))]
 fn is_entry(left: &Entry, right: &Entry) -> bool
     ensures { MatchBool result (left.now ≡ right.now) (left.now ≢ right.now) }
@@ -21,7 +21,7 @@ fn is_entry(left: &Entry, right: &Entry) -> bool
         && are_same(&left.step, &right.step)
 }
 
-/// Whether a list has an entry at a place.
+/// Returns whether a list has an entry at a place.
 #[tactic(auto, using(crate::proofs::Entries::here, crate::proofs::Entries::another, crate::proofs::Entries::past))]
 fn has_at(list: &History, place: usize, entry: &Entry) -> bool
     ensures { MatchBool result (slice_get list.now.entries place ≡ Some entry.now)
@@ -33,8 +33,8 @@ fn has_at(list: &History, place: usize, entry: &Entry) -> bool
     }
 }
 
-/// The place in a list behind one more entry: the next one, where the entry is the actor's and the
-/// list has it there; none where the list has another there.
+/// Returns the place in a list after one more entry of the history: the next one if the entry is the actor's and the
+/// list has it there; the same one if it is another actor's; `None` if the list has another entry there.
 fn passed(list: &History, place: usize, actor: Actor, entry: &Entry) -> Option<usize>
     requires { place ≤ length list.now.entries }
     ensures { Passes list.now.entries place actor entry.now result }
@@ -50,8 +50,8 @@ fn passed(list: &History, place: usize, actor: Actor, entry: &Entry) -> Option<u
     }
 }
 
-/// The place in a list behind what a history has of an actor up to an entry and with it, from the
-/// place before that; none where the list differs.
+/// Returns the place in a list after the actor's entries up to a number of the history and with it, by the place
+/// before that; `None` if the list differs.
 fn next_place(
     list: &History,
     place: usize,
@@ -70,7 +70,7 @@ fn next_place(
     }
 }
 
-/// Whether a list is what a history has of an actor, in order. It takes no memory.
+/// Returns whether a list is an actor's part of a history, in order. It allocates nothing.
 #[tactic(auto, using(crate::proofs::Parts::whole, crate::proofs::Parts::too_long))]
 pub fn is_part(list: &History, actor: Actor, history: &History) -> bool
     ensures { MatchBool result (list.now.entries ≡ part_of actor history.now.entries)
@@ -86,7 +86,7 @@ pub fn is_part(list: &History, actor: Actor, history: &History) -> bool
     place == list.len()
 }
 
-/// The actor of a history's entry of a number, from 0.
+/// Returns the actor of a history's entry, by its number from 0, which must exist.
 pub fn actor_at(history: &History, index: usize) -> Actor
     requires { index < length history.now.entries }
     ensures { IfSome (slice_get history.now.entries index) (λ e. result ≡ e.actor) }
@@ -97,7 +97,7 @@ pub fn actor_at(history: &History, index: usize) -> Actor
     }
 }
 
-/// Enters a copy of an entry into a list. The error is want of memory.
+/// Appends a copy of an entry to a list. Fails only if out of memory.
 fn enter_again(alloc: Global, list: &mut History, entry: &Entry) -> Result<(), AllocError>
     ensures { OnOk result (list.new.entries ≡ list.old.entries ++ entry.now ∷ []) }
 {
@@ -107,7 +107,7 @@ fn enter_again(alloc: Global, list: &mut History, entry: &Entry) -> Result<(), A
     Ok(())
 }
 
-/// Enters a copy of an entry into a list, where it is the actor's. The error is want of memory.
+/// Appends a copy of an entry to a list if it is the actor's. Fails only if out of memory.
 #[tactic(auto, using(crate::proofs::Parts::one_kept, crate::proofs::Parts::one_passed))]
 fn enter_own(
     alloc: Global,
@@ -123,7 +123,7 @@ fn enter_own(
     Ok(())
 }
 
-/// Enters a copy of a history's entry of a number, where it is the actor's.
+/// Appends a copy of a history's entry, by its number, to a list if it is the actor's. Fails only if out of memory.
 fn enter_at(
     alloc: Global,
     list: &mut History,
@@ -141,7 +141,7 @@ fn enter_at(
     }
 }
 
-/// What a history has of an actor, in order.
+/// Returns an actor's part of a history, in order. Fails only if out of memory.
 #[tactic(auto, using(crate::proofs::Parts::part_whole))]
 pub fn part(alloc: Global, actor: Actor, history: &History) -> Result<History, AllocError>
     ensures { IfOk result (λ list. list.entries ≡ part_of actor history.now.entries) }

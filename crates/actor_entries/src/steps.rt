@@ -1,4 +1,4 @@
-//! Steps, copied and compared.
+//! Copying and comparing steps.
 
 ghost use Rattle.std.specs.Prelude.{◌≡◌, ◌≢◌, IfOk, MatchBool};
 
@@ -6,7 +6,7 @@ use crate::codes::code;
 use model::{PageList, Step};
 use std::alloc::{AllocError, Global};
 
-/// A copy of a step. Only that of `Protect` takes memory.
+/// Returns a copy of a step. Only that of `Protect` takes memory. Fails only if out of memory.
 pub fn again(alloc: Global, step: &Step) -> Result<Step, AllocError>
     ensures { IfOk result (λ copy. copy ≡ step.now) }
 {
@@ -95,7 +95,7 @@ pub fn again(alloc: Global, step: &Step) -> Result<Step, AllocError>
     })
 }
 
-/// Whether two steps are one and the same.
+/// Returns whether two steps are equal.
 #[tactic(auto, using(crate::proofs::OneCode::one_step, crate::proofs::OneCode::other_step))]
 pub fn are_same(left: &Step, right: &Step) -> bool
     ensures { MatchBool result (left.now ≡ right.now) (left.now ≢ right.now) }

@@ -53,7 +53,7 @@ pub fn named(name: &str) -> Option<Mix> {
     }
 }
 
-/// The frames that a mix takes: as many as there may be where it fills them, else one.
+/// Returns how many frames a mix needs: the greatest number if it fills them, else one.
 fn frames(mix: Mix) -> u32 {
     match mix {
         Mix::Build => 4_096,
@@ -61,7 +61,7 @@ fn frames(mix: Mix) -> u32 {
     }
 }
 
-/// What the heap of a mix is made with: one layout, of a reference and a datum.
+/// Returns the configuration of a mix's heap: one layout, of a reference and a datum.
 pub fn config(alloc: Global, mix: Mix) -> Result<Config> {
     let layouts = Layouts::new(vec![in alloc; Layout { refs: 1, nums: 1 }]?);
     Ok(Config::new(WORDS, frames(mix), layouts))

@@ -1,4 +1,4 @@
-//! Pages full of live objects are copied, beside slices of the same words.
+//! Copying pages full of live objects, compared with copying slices of the same words.
 
 ghost use Rattle.std.specs.Prelude.{◌<◌};
 
@@ -18,7 +18,7 @@ pub enum CopyBy {
     Page,
 }
 
-/// The layout of objects of so many words, all of which are data but for the header, up to 255, and
+/// Returns the layout of objects of `size` words, of which up to 255 after the header are data, and the rest
 /// references.
 fn layout(size: u32) -> Layout {
     let fields = size.saturating_sub(1).min(510);
@@ -29,7 +29,7 @@ fn layout(size: u32) -> Layout {
     }
 }
 
-/// Fills a page with objects, as many as it has room for.
+/// Fills a page with objects, as many as fit.
 fn fill(heap: &mut impl Steps, words: u32, objects: u32) -> Result<(), Refusal> {
     let (target, layout) = (0, 0);
     heap.step(THREAD, Step::Take(words))?;
@@ -40,7 +40,7 @@ fn fill(heap: &mut impl Steps, words: u32, objects: u32) -> Result<(), Refusal> 
     Ok(())
 }
 
-/// Fills pages with objects that live: they are born while a mark runs.
+/// Fills pages with live objects: they are allocated while a mark runs.
 pub fn fill_live(
     heap: &mut impl Steps,
     words: u32,
@@ -56,7 +56,7 @@ pub fn fill_live(
     Ok(())
 }
 
-/// The first pages, by their numbers from 1.
+/// Returns the first pages, by their numbers from 1.
 fn first_pages(alloc: Global, count: u32) -> Result<PageList> {
     let mut pages = Vec::with_capacity(alloc, count as usize)?;
     for page in 1..=count {
@@ -65,12 +65,12 @@ fn first_pages(alloc: Global, count: u32) -> Result<PageList> {
     Ok(PageList::new(pages))
 }
 
-/// How many objects of a size a page of so many words has.
+/// Returns how many objects of a size fit in a page of `words` words.
 pub fn objects_of(words: u32, size: u32) -> u32 {
     words / size.max(1)
 }
 
-/// Full pages are protected, as all threads know.
+/// Protects full pages, and all threads cross.
 fn protect_full(
     heap: &mut impl Steps,
     protect: Step,
@@ -110,8 +110,7 @@ fn copy_pages(heap: &mut impl Steps, by: CopyBy, pages: u32, objects: u32) -> Re
     Ok(())
 }
 
-/// Full pages of objects of so many words are protected, and the first of them are copied. Gives how
-/// many objects have still to be.
+/// Protects full pages of objects of this size, and copies the first of them. Returns how many objects are uncopied.
 fn copied(
     alloc: Global,
     mut heap: impl Steps + Drop,
@@ -127,8 +126,7 @@ fn copied(
     Ok(heap.heap().sides().uncopied())
 }
 
-/// What a heap is made with that has so many pages of objects of so many words, and frames for as
-/// many copies.
+/// Returns the configuration of a heap with this many pages of objects of a size, and frames for their copies.
 fn config(alloc: Global, size: u32, pages: u32) -> Result<Config> {
     let layouts = Layouts::new(vec![in alloc; layout(size)]?);
     let mut config = Config::new(WORDS, pages.saturating_mul(2), layouts);
@@ -136,14 +134,14 @@ fn config(alloc: Global, size: u32, pages: u32) -> Result<Config> {
     Ok(config)
 }
 
-/// Full pages of objects of so many words are protected; then all objects of the first `count` of
-/// them are copied. Gives how many objects have still to be.
+/// Protects full pages of objects of a size; then copies all objects of the first `count` of them. Returns how many
+/// objects are uncopied.
 pub fn copies(alloc: Global, by: CopyBy, size: u32, pages: u32, count: u32) -> Result<u64> {
     let heap = Heap::new(alloc, config(alloc, size, pages)?)?;
     copied(alloc, heap, by, size, pages, count)
 }
 
-/// Copies so many words at a time, so often.
+/// Copies `each` words at a time, `count` times.
 fn copy_slices(from: &[u64], to: &mut [u64], each: usize, count: usize)
     requires { 0 < each }
 {
@@ -156,8 +154,8 @@ fn copy_slices(from: &[u64], to: &mut [u64], each: usize, count: usize)
     }
 }
 
-/// As many words as pages have are made twice; then those of so many pages are copied, so many words
-/// at a time. Gives one of the words.
+/// Allocates the words of the pages twice; then copies those of `copied` pages, `size` words at a time. Returns one
+/// of the words.
 pub fn slices(alloc: Global, size: u32, pages: u32, copied: u32) -> Result<u64> {
     let words = pages as usize * WORDS as usize;
     let from: Vec<u64> = vec![in alloc; 7; words]?;

@@ -9,15 +9,15 @@ use pauseless::{Holding, Layout, ManagedHeap as HeldHeap, Parts};
 use std::alloc::Global;
 use std::time::{Clock, Instant};
 
-/// Pages of which at most so many words of a hundred live are emptied.
+/// Pages of which at most this percentage of the words is live are emptied.
 const PERCENT: u32 = 75;
 
 /// How many collections in parts are done.
 const COLLECTIONS: u32 = 3;
 
-/// A heap that is held, which can be looked at.
+/// A managed heap whose state is read.
 trait Seen: Holding {
-    /// The heap as it stands.
+    /// Returns the current heap.
     fn inside(&self) -> &Heap;
 }
 
@@ -27,18 +27,18 @@ impl Seen for HeldHeap {
     }
 }
 
-/// What tells the kinds of parts apart.
+/// The state by which kinds of parts are distinguished.
 #[derive(Clone, Copy)]
 struct Sight {
     phase: Phase,
-    /// The objects that are still to be copied.
+    /// How many objects are uncopied.
     uncopied: u64,
     /// The frames that are used, and those whose memory is kept.
     used: usize,
     kept: usize,
 }
 
-/// How a heap looks.
+/// Returns the state of a heap.
 fn look(heap: &impl Seen) -> Sight {
     let inside = heap.inside();
     Sight {
@@ -49,7 +49,7 @@ fn look(heap: &impl Seen) -> Sight {
     }
 }
 
-/// The kind of a part that neither protected nor copied.
+/// Returns the kind of a part that neither protected nor copied.
 fn kind_by_phase(before: Sight, after: Sight, ended: bool) -> &'static str {
     match (before.phase, after.phase) {
         (Phase::Scanning, Phase::Scanning) => "scan",
@@ -65,7 +65,7 @@ fn kind_by_phase(before: Sight, after: Sight, ended: bool) -> &'static str {
     }
 }
 
-/// The kind of a part that neither protected nor copied, and has left the phase as it was.
+/// Returns the kind of a part that neither protected nor copied, and left the phase as it was.
 fn kind_by_frames(before: Sight, after: Sight) -> &'static str {
     if after.used < before.used {
         "empty"
@@ -76,7 +76,7 @@ fn kind_by_frames(before: Sight, after: Sight) -> &'static str {
     }
 }
 
-/// The kind of a part.
+/// Returns the kind of a part.
 fn kind(before: Sight, after: Sight, ended: bool) -> &'static str {
     if before.uncopied < after.uncopied {
         "protect"
@@ -87,7 +87,7 @@ fn kind(before: Sight, after: Sight, ended: bool) -> &'static str {
     }
 }
 
-/// One part. True where the collection has ended.
+/// Does one part. Returns whether the collection has ended.
 fn part<R: Clock>(
     rt: &R,
     alloc: Global,
@@ -104,7 +104,7 @@ fn part<R: Clock>(
     Ok(ended)
 }
 
-/// All parts of a collection.
+/// Does all parts of a collection.
 fn collect<R: Clock>(
     rt: &R,
     alloc: Global,
@@ -121,7 +121,7 @@ fn collect<R: Clock>(
     Ok(())
 }
 
-/// A collection by one call.
+/// Does a collection by one call.
 fn collect_whole<R: Clock>(
     rt: &R,
     alloc: Global,
@@ -134,7 +134,7 @@ fn collect_whole<R: Clock>(
     Ok(laps.add("whole", nanos)?)
 }
 
-/// All collections of a heap with so many pages full of so many objects that live.
+/// Does all collections of a heap with `pages` pages full of objects, every second one live.
 fn collections<R: Clock>(
     rt: &R,
     alloc: Global,
@@ -153,7 +153,7 @@ fn collections<R: Clock>(
     Ok(laps.all()?)
 }
 
-/// Collections of a heap of so many words a page and so many frames, with so many pages full of objects of a
+/// Does collections of a heap of pages of `words` words and this many frames, with some pages full of objects of a
 /// size and this layout, in parts with a budget.
 pub fn timed<R: Clock>(
     rt: &R,

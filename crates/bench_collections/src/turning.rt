@@ -1,4 +1,4 @@
-//! Heaps in which a shape is made, and marked or collected some times; and heaps in which objects are made.
+//! Heaps in which a shape is made, and marked or collected some times; and heaps in which objects are allocated.
 
 use crate::asking::{Marked, new_heap, settle};
 use crate::{lists, meshes};
@@ -6,7 +6,7 @@ use anyhow::Result;
 use pauseless::{Holding, Refusal};
 use std::alloc::Global;
 
-/// What is made.
+/// The shape of the objects.
 #[derive(Clone, Copy)]
 pub enum Shape {
     List,
@@ -15,12 +15,12 @@ pub enum Shape {
     Graph,
 }
 
-/// What is done with it.
+/// What is done with them.
 #[derive(Clone, Copy)]
 pub enum Turn {
     /// A mark.
     Mark,
-    /// A whole collection.
+    /// A complete collection.
     Collect,
 }
 
@@ -28,7 +28,7 @@ pub enum Turn {
 #[derive(Clone, Copy)]
 pub struct Task {
     pub shape: Shape,
-    /// The objects that are kept.
+    /// The number of objects that are kept.
     pub count: u32,
     /// The words of an object of a list.
     pub words: u32,
@@ -37,7 +37,7 @@ pub struct Task {
     pub times: u32,
 }
 
-/// The shape is made.
+/// Makes the shape.
 fn build(alloc: Global, heap: &mut impl Holding, task: Task) -> Result<()> {
     match task.shape {
         Shape::List => lists::list(alloc, heap, task.count),
@@ -47,7 +47,7 @@ fn build(alloc: Global, heap: &mut impl Holding, task: Task) -> Result<()> {
     }
 }
 
-/// One mark, or one collection. Gives how many objects live.
+/// Does one mark, or one collection. Returns how many objects are live.
 fn one_turn(alloc: Global, heap: &mut impl Marked, turn: Turn) -> Result<u64, Refusal> {
     match turn {
         Turn::Mark => heap.mark_once(),
@@ -55,7 +55,7 @@ fn one_turn(alloc: Global, heap: &mut impl Marked, turn: Turn) -> Result<u64, Re
     }
 }
 
-/// So many of these. Gives what the last one found, or 0 where there is none.
+/// Does `times` of these. Returns the result of the last one, or 0 if there is none.
 fn turns(alloc: Global, heap: &mut impl Marked, task: Task) -> Result<u64, Refusal> {
     let mut live = 0;
     for _ in 0..task.times {
@@ -64,14 +64,14 @@ fn turns(alloc: Global, heap: &mut impl Marked, task: Task) -> Result<u64, Refus
     Ok(live)
 }
 
-/// All that is done in one heap.
+/// Does all work in one heap.
 fn work(alloc: Global, mut heap: impl Marked + Drop, task: Task) -> Result<u64> {
     build(alloc, &mut heap, task)?;
     settle(&mut heap)?;
     Ok(turns(alloc, &mut heap, task)?)
 }
 
-/// That is done in each of so many heaps. Gives what the last mark of the last heap found.
+/// Does the work in each of `heaps` heaps. Returns what the last mark of the last heap found.
 pub fn run(alloc: Global, task: Task, heaps: u32) -> Result<u64> {
     let mut live = 0;
     for _ in 0..heaps {
@@ -80,24 +80,24 @@ pub fn run(alloc: Global, task: Task, heaps: u32) -> Result<u64> {
     Ok(live)
 }
 
-/// A list of so many objects is made in a heap.
+/// Makes a list of `count` objects in a heap.
 fn kept(alloc: Global, mut heap: impl Holding + Drop, count: u32) -> Result<u64> {
     lists::list(alloc, &mut heap, count)?;
     Ok(u64::from(count))
 }
 
-/// A list of so many objects is made. Gives their number.
+/// Makes a list of `count` objects. Returns their number.
 pub fn keep(alloc: Global, words: u32, count: u32) -> Result<u64> {
     kept(alloc, new_heap(alloc, words)?, count)
 }
 
-/// So many objects are made in a heap, which nobody keeps.
+/// Allocates `count` garbage objects in a heap.
 fn lost(alloc: Global, mut heap: impl Holding + Drop, count: u32) -> Result<u64> {
     lists::waste(alloc, &mut heap, count)?;
     Ok(u64::from(count))
 }
 
-/// So many objects are made that nobody keeps. Gives their number.
+/// Allocates `count` garbage objects. Returns their number.
 pub fn lose(alloc: Global, words: u32, count: u32) -> Result<u64> {
     lost(alloc, new_heap(alloc, words)?, count)
 }

@@ -45,7 +45,7 @@ fn sum_some(cells: &mut impl Cells, sum: u64) -> Result<u64, Refusal> {
     Ok(sum)
 }
 
-/// Makes a list, and puts it into the thread's global.
+/// Makes a list, and stores it in the thread's global.
 fn make_list<'a, R: Wait + Clock>(
     rt: &R,
     alloc: Global,
@@ -65,13 +65,13 @@ fn make_list<'a, R: Wait + Clock>(
     Ok(portion)
 }
 
-/// Whether a global has a list; if so it goes into register 1.
+/// Returns whether a global has a list; if so, loads it into register 1.
 fn load_list(mutator: &mut impl MutatorCalls, global: u32) -> Result<bool, Refusal> {
     mutator.read_global(1, global)?;
     Ok(!mutator.is_null(1)?)
 }
 
-/// Reads the list in register 1. Fails if its sum is another one.
+/// Reads the list in register 1. Fails if its sum is wrong.
 fn read_list<'a, R: Wait + Clock>(
     rt: &R,
     shared: &'a SharedHeap,
@@ -91,7 +91,7 @@ fn read_list<'a, R: Wait + Clock>(
     }
 }
 
-/// The thread after this one, in a circle of N.
+/// Returns the thread after this one, in a circle of N.
 fn next_of(thread: u32, threads: u32) -> u32 {
     let next = thread.wrapping_add(1);
     if next < threads { next } else { 0 }
@@ -122,8 +122,8 @@ impl Job for Maker {
     }
 }
 
-/// N threads make lists on a heap that they share, alongside a collector. The count of the first lap is that of cells.
-/// The numbers are those of threads, of the lists of each, of rests, of the words of a page, and the budget.
+/// N threads make lists on a shared heap, alongside a collector. The count of the first lap is that of cells. The
+/// numbers are those of threads, of the lists of each, of rests, of the words of a page, and the budget.
 pub fn lists<R: Threads + Wait + Clock + Sync>(
     rt: &R,
     alloc: Global,

@@ -10,7 +10,7 @@ use std::sync::Wait;
 use std::thread::Threads;
 use std::time::{Clock, Instant};
 
-/// The looks of one view: a number and a reference of each cell of a list.
+/// The reads of one view: a number and a reference of each cell of a list.
 const LOOKS: u32 = 2 * LENGTH;
 
 /// The sum of the list's numbers.
@@ -44,7 +44,7 @@ fn fill_by<R: Wait>(
     fill(alloc, &mut *portion)
 }
 
-/// Adds up the numbers of the list. Fails if its sum is another one.
+/// Adds up the numbers of the list. Fails if the sum is wrong.
 fn walk(view: &View<'_>) -> Result<(), Refusal> {
     let mut sum = 0u64;
     let mut next = view.global(0)?;
@@ -62,7 +62,7 @@ fn walk(view: &View<'_>) -> Result<(), Refusal> {
     }
 }
 
-/// One view of the list.
+/// Reads the list by one view.
 fn look<R: Wait>(rt: &R, shared: &SharedHeap) -> Result<(), Refusal> {
     let desk = shared.read(rt);
     walk(&desk.view())
@@ -85,7 +85,7 @@ impl Job for Looker {
     }
 }
 
-/// N threads look `count` times each.
+/// N threads read the list by `count` views each.
 pub fn views<R: Threads + Wait + Clock + Sync>(
     rt: &R,
     alloc: Global,

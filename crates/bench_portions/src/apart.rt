@@ -12,7 +12,7 @@ use std::thread;
 use std::thread::Threads;
 use std::time::{Clock, Instant};
 
-/// All turns of a thread on its heap, each with a cell more. Returns how many steps were done.
+/// Does all turns of a thread on its heap, each with one more cell. Returns how many steps were done.
 fn turns(alloc: Global, cells: impl Cells + Drop, count: u32) -> Result<u64, Refusal> {
     let mut cells = cells;
     let mut done = 0u64;
@@ -24,7 +24,7 @@ fn turns(alloc: Global, cells: impl Cells + Drop, count: u32) -> Result<u64, Ref
     Ok(done)
 }
 
-/// All turns of a thread for each heap. Returns how many steps were done.
+/// Does all turns of a thread for each heap. Returns how many steps were done.
 fn all<R: Threads + Wait + Sync, C: Cells + Drop + Send>(
     rt: &R,
     alloc: Global,
@@ -60,7 +60,7 @@ fn timed<R: Threads + Wait + Clock + Sync, C: Cells + Drop + Send>(
     Ok(vec![in alloc; Lap::once(name, done, nanos)]?)
 }
 
-/// A heap for each of N threads.
+/// Returns a heap for each of N threads.
 fn own_heaps(alloc: Global, threads: u32) -> Result<Vec<Own>> {
     let mut heaps = Vec::with_capacity(alloc, threads as usize)?;
     for _ in 0..threads {

@@ -14,14 +14,14 @@ use std::time::{Clock, Instant};
 /// The lock and the plain heap of each thread.
 type Heaps = Mutex<Vec<Plain>>;
 
-/// What each thread does.
+/// The work of each thread.
 #[derive(Clone, Copy)]
 struct Plan {
     count: u32,
     is_watched: bool,
 }
 
-/// A thread's cell that names itself.
+/// Allocates a thread's cell that refers to itself.
 fn prepare_of<R: Wait>(rt: &R, alloc: Global, heaps: &Heaps, thread: usize) -> Result<(), Refusal> {
     let mut heaps = heaps.lock(rt);
     match heaps.get_mut(thread) {
@@ -30,7 +30,7 @@ fn prepare_of<R: Wait>(rt: &R, alloc: Global, heaps: &Heaps, thread: usize) -> R
     }
 }
 
-/// A turn of a thread.
+/// Does a turn of a thread.
 fn turn_of<R: Wait>(rt: &R, heaps: &Heaps, thread: usize) -> Result<(), Refusal> {
     let mut heaps = heaps.lock(rt);
     match heaps.get_mut(thread) {
@@ -39,7 +39,7 @@ fn turn_of<R: Wait>(rt: &R, heaps: &Heaps, thread: usize) -> Result<(), Refusal>
     }
 }
 
-/// A turn of a thread with a cell more, watched.
+/// Does a turn of a thread with one more cell, watched.
 fn watched_turn_of<R: Wait + Clock>(
     rt: &R,
     alloc: Global,
@@ -57,7 +57,7 @@ fn watched_turn_of<R: Wait + Clock>(
     watch.end(rt)
 }
 
-/// All turns of a thread.
+/// Does all turns of a thread.
 fn turns_of<R: Wait + Clock>(
     rt: &R,
     alloc: Global,
@@ -83,7 +83,7 @@ fn turns_of<R: Wait + Clock>(
     Ok(watch)
 }
 
-/// All turns of all threads. Returns what each of them did.
+/// Does all turns of all threads. Returns what each of them did.
 fn all<R: Threads + Wait + Clock + Sync>(
     rt: &R,
     alloc: Global,
@@ -106,7 +106,7 @@ fn all<R: Threads + Wait + Clock + Sync>(
     })
 }
 
-/// A plain heap for each of N threads.
+/// Returns a plain heap for each of N threads.
 pub fn plain_heaps(alloc: Global, threads: u32) -> Result<Vec<Plain>, AllocError> {
     let mut heaps = Vec::with_capacity(alloc, threads as usize)?;
     for _ in 0..threads {
@@ -115,7 +115,7 @@ pub fn plain_heaps(alloc: Global, threads: u32) -> Result<Vec<Plain>, AllocError
     Ok(heaps)
 }
 
-/// N threads do `count` steps each on plain heaps under a lock; if they are watched, with a cell more for each turn.
+/// N threads do `count` steps each on plain heaps under a lock; if watched, with one more cell for each turn.
 pub fn locked<R: Threads + Wait + Clock + Sync>(
     rt: &R,
     alloc: Global,

@@ -1,4 +1,4 @@
-//! A heap that one thread has for itself.
+//! A heap that only one thread uses.
 
 use bench_support_threads::{CELL, Cells, POLICY};
 use collecting::Holding;
@@ -7,7 +7,7 @@ use managed::ManagedHeap;
 use model::Refusal;
 use std::alloc::Global;
 
-/// A heap, of which thread 0 does all steps.
+/// A heap on which thread 0 does all steps.
 #[derive(Drop)]
 pub struct Own {
     pub heap: ManagedHeap,

@@ -1,23 +1,23 @@
-//! A plain heap: cells in a list that nobody collects, to compare with.
+//! A plain heap: cells in a list that is never collected, for comparison.
 
 use bench_support_threads::Cells;
 use model::Refusal;
 use std::alloc::{AllocError, Global};
 
-/// How many places there are. A place is used again after all others: by then its list is dropped.
+/// How many places there are. A place is reused after all others: by then its list is dropped.
 const SIZE: usize = 4_096;
 
-/// The place that is none.
+/// No place.
 const NOWHERE: usize = usize::MAX;
 
-/// A cell, and the place of the one that it names.
+/// A cell, and the place of the cell to which it refers.
 #[derive(Clone, Copy)]
 struct Cell {
     next: usize,
     number: u64,
 }
 
-/// A thread's cells and its four registers. The first cell stays where it is.
+/// A thread's cells and its four registers. The first cell stays in its place.
 #[derive(Drop)]
 pub struct Plain {
     cells: Vec<Cell>,
@@ -26,7 +26,7 @@ pub struct Plain {
 }
 
 impl Plain {
-    /// A heap without cells.
+    /// Returns a heap without cells.
     pub fn new(alloc: Global) -> Result<Plain, AllocError> {
         let empty = Cell {
             next: NOWHERE,
@@ -39,7 +39,7 @@ impl Plain {
         })
     }
 
-    /// The place that a register names.
+    /// Returns the place to which a register refers.
     #[inline(always)]
     fn place(&self, register: u32) -> Result<usize, Refusal> {
         match self.registers.get(register as usize) {
@@ -48,7 +48,7 @@ impl Plain {
         }
     }
 
-    /// Has a register name a place.
+    /// Lets a register refer to a place.
     #[inline(always)]
     fn name(&mut self, register: u32, place: usize) -> Result<(), Refusal> {
         match self.registers.get_mut(register as usize) {
@@ -60,7 +60,7 @@ impl Plain {
         }
     }
 
-    /// The cell that a register names.
+    /// Returns the cell to which a register refers.
     #[inline(always)]
     fn cell(&self, register: u32) -> Result<Cell, Refusal> {
         match self.cells.get(self.place(register)?) {
@@ -69,7 +69,7 @@ impl Plain {
         }
     }
 
-    /// Writes the cell that a register names.
+    /// Writes the cell to which a register refers.
     #[inline(always)]
     fn write(&mut self, register: u32, cell: Cell) -> Result<(), Refusal> {
         let place = self.place(register)?;

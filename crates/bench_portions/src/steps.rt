@@ -1,4 +1,4 @@
-//! Steps of several threads on one heap that they share, by portions, with the waits of each thread or without.
+//! Steps of several threads on one shared heap, by portions, with the waits of each thread or without.
 
 use anyhow::Result;
 use bench_support::{Lap, since};
@@ -13,10 +13,10 @@ use std::sync::Wait;
 use std::thread::Threads;
 use std::time::{Clock, Instant};
 
-/// For how many rests a portion lasts at least, while another thread waits: some 5,000 steps.
+/// How many rests a portion lasts at least, while another thread waits: some 5,000 steps.
 const RESTS: u32 = 80;
 
-/// Loads, reads and writes alone; a thread rests after each turn.
+/// Loads, reads and writes only; a thread rests after each turn.
 #[derive(Drop)]
 struct Unwatched {
     count: u32,
@@ -44,7 +44,7 @@ impl Job for Unwatched {
     }
 }
 
-/// The same with a cell more for each turn, watched.
+/// The same with one more cell for each turn, watched.
 #[derive(Drop)]
 struct Watched {
     count: u32,
@@ -89,7 +89,7 @@ fn timed<R: Threads + Wait + Clock + Sync>(
     laps(alloc, "portions", nanos, &all)
 }
 
-/// N threads do `count` steps each, by portions of a heap that they share.
+/// N threads do `count` steps each, by portions of a shared heap.
 pub fn portions<R: Threads + Wait + Clock + Sync>(
     rt: &R,
     alloc: Global,

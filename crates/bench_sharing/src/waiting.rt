@@ -1,4 +1,4 @@
-//! A thread waits for a step that is refused as `Stall`.
+//! A thread waits for a step that fails with `Stall`.
 
 use crate::acting::{config, opened};
 use anyhow::{Result, bail};
@@ -11,7 +11,7 @@ use std::thread;
 use std::thread::Threads;
 use std::time::{Clock, Duration, Instant};
 
-/// A seat at the book that threads share.
+/// Does a step of an actor's seat. Returns whether it was accepted.
 fn acts<R: Wait>(rt: &R, shared: &Shared, seats: &mut [Seat], actor: Actor, step: Step) -> bool {
     for seat in seats {
         if seat.actor() == actor {
@@ -21,8 +21,8 @@ fn acts<R: Wait>(rt: &R, shared: &Shared, seats: &mut [Seat], actor: Actor, step
     false
 }
 
-/// The steps after which thread 0 has to wait for thread 1: an object of a page that is protected is in a
-/// register of thread 0, which has crossed, and thread 1 hasn't.
+/// Does the steps after which thread 0 has to wait for thread 1: an object of a protected page is in a register of
+/// thread 0, which has crossed, and thread 1 hasn't.
 fn prepare<R: Wait>(
     rt: &R,
     alloc: Global,
@@ -56,12 +56,12 @@ fn cross_late<R: Wait + Clock>(rt: &R, shared: &Shared, mut seat: Seat, millis: 
     shared.step(rt, &mut seat, Step::Cross).is_ok()
 }
 
-/// Thread 0 corrects its register, for which it has to wait.
+/// Thread 0 corrects its register, and has to wait for that.
 fn scrub<R: Wait>(rt: &R, shared: &Shared, mut seat: Seat) -> bool {
     shared.step_wait(rt, &mut seat, Step::Scrub(0)).is_ok()
 }
 
-/// Both threads at once. Gives how many steps were accepted.
+/// Runs both threads. Returns how many steps were accepted.
 fn both<R: Threads + Wait + Clock + Sync>(
     rt: &R,
     shared: &Shared,
@@ -77,8 +77,8 @@ fn both<R: Threads + Wait + Clock + Sync>(
     u64::from(scrubbed).wrapping_add(u64::from(crossed))
 }
 
-/// Thread 0 waits so many milliseconds for a step of thread 1: these have the first two seats. None where
-/// there are none.
+/// Thread 0 waits `millis` milliseconds for a step of thread 1: these have the first two seats. `None` if there are
+/// none.
 fn waited<R: Threads + Wait + Clock + Sync>(
     rt: &R,
     shared: &Shared,
@@ -91,7 +91,7 @@ fn waited<R: Threads + Wait + Clock + Sync>(
     Some(both(rt, shared, first, second, millis))
 }
 
-/// A thread waits so many milliseconds for a step of another one.
+/// A thread waits `millis` milliseconds for a step of another one.
 pub fn waits<R: Threads + Wait + Clock + Sync>(
     rt: &R,
     alloc: Global,

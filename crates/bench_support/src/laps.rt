@@ -1,4 +1,4 @@
-//! How long something took.
+//! Times of works.
 
 use std::alloc::{AllocError, Global};
 use std::io;
@@ -14,7 +14,7 @@ pub struct Lap {
 }
 
 impl Lap {
-    /// What was done once, as so many parts.
+    /// Returns a lap of what was done once, in `count` parts.
     pub fn once(name: &'static str, count: u64, nanos: u64) -> Lap {
         Lap {
             name,
@@ -25,20 +25,20 @@ impl Lap {
     }
 }
 
-/// Nanoseconds since a moment.
+/// Returns the nanoseconds since an instant.
 pub fn since(clock: &impl Clock, start: Instant) -> io::Result<u64> {
     let took = start.elapsed(clock)?;
     Ok(u64::try_from(took.as_nanos()).unwrap_or(u64::MAX))
 }
 
-/// The times of one kind of thing.
+/// The times of one kind of work.
 #[derive(Drop)]
 struct Kind {
     name: &'static str,
     times: Vec<u64>,
 }
 
-/// The times of things of several kinds.
+/// The times of several kinds of work.
 #[derive(Drop)]
 pub struct Laps {
     alloc: Global,
@@ -46,7 +46,7 @@ pub struct Laps {
 }
 
 impl Laps {
-    /// No times.
+    /// Returns no times.
     pub fn new(alloc: Global) -> Laps {
         Laps {
             alloc,
@@ -54,7 +54,7 @@ impl Laps {
         }
     }
 
-    /// Something of a kind took so long.
+    /// Adds the time of a work of a kind.
     pub fn add(&mut self, name: &'static str, nanos: u64) -> Result<(), AllocError> {
         for kind in &mut self.kinds {
             if kind.name == name {
@@ -65,7 +65,7 @@ impl Laps {
         Ok(self.kinds.push(Kind { name, times })?)
     }
 
-    /// How often each kind of thing was done, and how long it took.
+    /// Returns how often each kind of work was done, and how long it took.
     pub fn all(self) -> Result<Vec<Lap>, AllocError> {
         let mut laps = Vec::with_capacity(self.alloc, self.kinds.len())?;
         for kind in self.kinds {
@@ -75,7 +75,7 @@ impl Laps {
     }
 }
 
-/// How often something was done, and how long it took.
+/// Returns how often a kind of work was done, and how long it took.
 fn lap_of(kind: Kind) -> Result<Lap, AllocError> {
     let mut times = kind.times;
     times.sort()?;

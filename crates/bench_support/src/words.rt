@@ -1,22 +1,22 @@
-//! The works that a command line names. The word `then` parts one work from the next; the word `timed`
-//! before a work asks for nanoseconds too.
+//! The works of a command line. The word `then` separates two works; the word `timed` before a work requests
+//! nanoseconds too.
 
 use crate::laps::Lap;
 use anyhow::{Result, bail};
 use std::alloc::Global;
 use std::env;
 
-/// A work by its name.
+/// A work.
 #[derive(Drop)]
 pub struct Work {
     pub name: String,
-    /// The words behind the name; 0 where there is none.
+    /// The numbers after the name; missing ones are 0.
     pub numbers: [u32; 5],
     /// Whether nanoseconds are printed too.
     pub timed: bool,
 }
 
-/// The word of a place, as a number; 0 where there is none.
+/// Returns the word at a place as a number; 0 if it is missing.
 fn number(words: &[String], place: usize) -> Result<u32> {
     match words.get(place) {
         None => Ok(0),
@@ -24,7 +24,7 @@ fn number(words: &[String], place: usize) -> Result<u32> {
     }
 }
 
-/// The numbers behind the name of a work.
+/// Returns the numbers after the name of a work.
 fn numbers(words: &[String]) -> Result<[u32; 5]> {
     Ok([
         number(words, 1)?,
@@ -35,7 +35,7 @@ fn numbers(words: &[String]) -> Result<[u32; 5]> {
     ])
 }
 
-/// A work by its words.
+/// Returns the work of these words.
 fn work_of(alloc: Global, words: &[String], timed: bool) -> Result<Work> {
     let Some(name) = words.first() else {
         bail!("no work is named");
@@ -47,7 +47,7 @@ fn work_of(alloc: Global, words: &[String], timed: bool) -> Result<Work> {
     })
 }
 
-/// The works that these words name.
+/// Returns the works of these words.
 fn parted(alloc: Global, words: &[String]) -> Result<Vec<Work>> {
     let mut works = Vec::new(alloc);
     for words in words.split(|word| word.as_str() == "then") {
@@ -62,7 +62,7 @@ fn parted(alloc: Global, words: &[String]) -> Result<Vec<Work>> {
     Ok(works)
 }
 
-/// The works that the command line names, behind the program's name.
+/// Returns the works of the command line, after the program's name.
 pub fn works(rt: &HostRuntime) -> Result<Vec<Work>> {
     let mut words = Vec::new(rt.alloc());
     for word in env::args(rt)?.skip(1) {

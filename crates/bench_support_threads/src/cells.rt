@@ -1,17 +1,17 @@
-//! What the benches do on a heap: the same on one that threads share, on a thread's own, and on a plain one.
+//! The operations of the benches on a heap: the same on a shared heap, on a thread's own, and on a plain one.
 
 use collecting::Policy;
 use model::Refusal;
 use portions::{Mutator, MutatorCalls};
 use std::alloc::Global;
 
-/// How many numbers are added to between two rests.
+/// How many numbers are incremented between two rests.
 const TURNS: u32 = 20;
 
-/// The steps of a turn, each of which adds to a number: a load, a read and a write for each of these.
+/// The steps of a turn, each of which increments a number: a load, a read and a write for each.
 pub const STEPS: u32 = 60;
 
-/// How many cells a list has at most.
+/// The greatest number of cells of a list.
 pub const LENGTH: u32 = 1_000;
 
 /// The steps that put a cell in front of a list.
@@ -20,16 +20,16 @@ pub const PUSH_STEPS: u32 = 4;
 /// The layout of cells.
 pub const CELL: u32 = 0;
 
-/// Buffers of a page. A thread collects only if few frames are free, so that it mostly leaves that to the collector.
+/// Buffers of a page. A thread collects only if few frames are free, so it mostly leaves that to the collector.
 pub const POLICY: Policy = Policy {
     words: 1_024,
     free: 8,
     percent: 75,
 };
 
-/// A heap of cells, each with a reference and a number, as one of its threads has it. Registers are numbers from 0.
+/// A heap of cells, each with a reference and a number, for one of its threads. Registers are numbers from 0.
 pub trait Cells {
-    /// Makes a cell in a register.
+    /// Allocates a cell in a register.
     fn new_cell(&mut self, alloc: Global, target: u32) -> Result<(), Refusal>;
 
     /// Loads a cell's reference.
@@ -89,7 +89,7 @@ impl Cells for Mutator {
     }
 }
 
-/// Makes a cell in register 0 that names itself.
+/// Allocates a cell in register 0 that refers to itself.
 pub fn prepare(alloc: Global, cells: &mut impl Cells) -> Result<(), Refusal> {
     cells.new_cell(alloc, 0)?;
     cells.link(0, 0)
@@ -113,7 +113,7 @@ pub fn push(alloc: Global, cells: &mut impl Cells, number: u64) -> Result<(), Re
     cells.keep(2, 3)
 }
 
-/// A turn, and a cell more on the list in register 2, which begins anew after `LENGTH` cells.
+/// Does a turn, and adds a cell to the list in register 2, which begins anew after `LENGTH` cells.
 pub fn turn_and_push(alloc: Global, cells: &mut impl Cells, place: u32) -> Result<(), Refusal> {
     turn(cells)?;
     if place % LENGTH == 0 {

@@ -21,14 +21,15 @@ pub struct Shape {
     pub words: u32,
     /// The frames. The collector begins when half of them are in use.
     pub frames: u32,
-    /// For how many rests a portion lasts at least, while another thread waits.
+    /// How many rests a portion lasts at least, while another thread waits.
     pub rests: u32,
-    /// How many objects the collector scans in a part at most; it also sets how many pages a collection empties.
+    /// The greatest number of objects that the collector scans in a part; it also determines how many pages a
+    /// collection empties.
     pub budget: u32,
 }
 
 impl Shape {
-    /// A heap of 2 MiB with this many rests.
+    /// Returns a heap of 2 MiB with this many rests.
     pub fn small(rests: u32) -> Shape {
         Shape {
             words: 1_024,
@@ -39,7 +40,7 @@ impl Shape {
     }
 }
 
-/// A heap of N threads, each of which has a global.
+/// Returns a heap of N threads, each of which has a global.
 pub fn new_heap(alloc: Global, threads: u32, shape: Shape) -> Result<ManagedHeap> {
     let layouts = Layouts::new(vec![in alloc; Layout { refs: 1, nums: 1 }]?);
     let mut config = Config::new(shape.words, shape.frames, layouts);
@@ -48,7 +49,7 @@ pub fn new_heap(alloc: Global, threads: u32, shape: Shape) -> Result<ManagedHeap
     Ok(ManagedHeap::new(alloc, config)?)
 }
 
-/// A heap of N threads that is shared, with its seats.
+/// Returns a shared heap of N threads, with its seats.
 pub fn opened(alloc: Global, threads: u32, shape: Shape) -> Result<(SharedHeap, Seats)> {
     match SharedHeap::open(alloc, new_heap(alloc, threads, shape)?, shape.rests).ok() {
         Some(opened) => Ok(opened),
@@ -58,7 +59,7 @@ pub fn opened(alloc: Global, threads: u32, shape: Shape) -> Result<(SharedHeap, 
 
 /// The work of one thread.
 pub trait Job: Sync {
-    /// Works at the heap by a seat, and returns what was done.
+    /// Works on the heap by a seat, and returns what was done.
     fn work<R: Wait + Clock>(
         &self,
         rt: &R,
@@ -91,7 +92,7 @@ pub fn all_work<R: Threads + Wait + Clock + Sync, J: Job>(
     })
 }
 
-/// The collector's work, until the heap is closed. Returns how many collections have ended.
+/// Does the collector's work, until the heap is closed. Returns how many collections have ended.
 fn collects<R: Wait + Clock>(
     rt: &R,
     alloc: Global,

@@ -1,4 +1,4 @@
-//! How long the jobs of threads take, and what the threads did.
+//! The times of threads' jobs, and what the threads did.
 
 use crate::team::{Job, Shape, all_work_collected};
 use crate::watch::Watch;
@@ -11,7 +11,7 @@ use std::sync::Wait;
 use std::thread::Threads;
 use std::time::{Clock, Instant};
 
-/// How many steps were done, all in all; or the first refusal.
+/// Returns how many steps were done in all, or the first error.
 fn total(all: &[Result<Watch, Refusal>]) -> Result<u64, Refusal> {
     let mut steps = 0u64;
     for each in all {
@@ -34,7 +34,7 @@ fn add_watch(found: &mut Laps, watch: &Watch) -> Result<(), AllocError> {
     Ok(())
 }
 
-/// What threads did in some time under a name, with their waits and holds.
+/// Returns what threads did in some time under a name, with their waits and holds.
 pub fn laps(
     alloc: Global,
     name: &'static str,
@@ -54,7 +54,7 @@ pub fn laps(
     Ok(laps)
 }
 
-/// A job is done alongside a collector.
+/// Does a job alongside a collector.
 pub fn collected<R: Threads + Wait + Clock + Sync, J: Job>(
     rt: &R,
     alloc: Global,

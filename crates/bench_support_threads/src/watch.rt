@@ -6,7 +6,7 @@ use std::alloc::Global;
 use std::sync::{RwLockWriteGuard, Wait};
 use std::time::Clock;
 
-/// Nanoseconds of the clock, or 0 if it fails.
+/// Returns the nanoseconds of the clock, or 0 if it fails.
 pub fn now(clock: &impl Clock) -> u64 {
     match clock.monotonic() {
         Ok(time) => u64::try_from(time.as_nanos()).unwrap_or(u64::MAX),
@@ -17,9 +17,9 @@ pub fn now(clock: &impl Clock) -> u64 {
 /// What a thread did, with its waits and holds in nanoseconds.
 #[derive(Drop)]
 pub struct Watch {
-    /// How many steps the thread did, or cells it made.
+    /// How many steps the thread did, or cells it allocated.
     pub done: u64,
-    /// Each wait for a turn: from asking for the heap to having it.
+    /// Each wait for a turn: from requesting the heap to having it.
     pub waits: Vec<u64>,
     /// Each hold: how long another thread waited before a portion ended.
     pub holds: Vec<u64>,
@@ -30,7 +30,7 @@ pub struct Watch {
 }
 
 impl Watch {
-    /// A thread asks for its first turn. `rests` is what `open` was given.
+    /// Records that a thread requests its first turn. `rests` is that of `open`.
     pub fn new(clock: &impl Clock, alloc: Global, rests: u32) -> Watch {
         Watch {
             done: 0,
@@ -48,7 +48,7 @@ impl Watch {
         self.done = self.done.wrapping_add(u64::from(steps));
     }
 
-    /// The thread has its turn.
+    /// Records that the thread has its turn.
     pub fn begin(&mut self, clock: &impl Clock, is_wanted: bool) -> Result<(), Refusal> {
         let begun = now(clock);
         let waited = begun.saturating_sub(self.asked);
@@ -60,7 +60,7 @@ impl Watch {
         }
     }
 
-    /// The thread ends its turn.
+    /// Records that the thread ends its turn.
     pub fn end(&mut self, clock: &impl Clock) -> Result<(), Refusal> {
         self.asked = now(clock);
         let Some(wanted) = self.wanted else {
@@ -72,14 +72,14 @@ impl Watch {
         }
     }
 
-    /// Whether a portion would go on at a rest whether the heap is wanted or not. Counts the rest.
+    /// Returns whether a portion continues at a rest even if the heap is wanted. Counts the rest.
     fn is_short(&mut self) -> bool {
         let is_short = self.made < self.rests;
         self.made = self.made.saturating_add(1);
         is_short
     }
 
-    /// Notes when the heap is wanted first in this turn, and returns whether it is.
+    /// Records when the heap is first wanted in this turn, and returns whether it is.
     fn is_wanted(&mut self, clock: &impl Clock, shared: &SharedHeap) -> bool {
         if self.wanted.is_none() && shared.is_wanted() {
             self.wanted = Some(now(clock));
@@ -88,8 +88,8 @@ impl Watch {
     }
 }
 
-/// `SharedHeap::rest`, with the clock read where a portion ends. A thread that waits goes on to wait while another one
-/// has the heap: so what is seen here is what `rest` sees.
+/// Does `SharedHeap::rest`, and reads the clock when a portion ends. A thread that waits goes on waiting while
+/// another one has the heap: so this sees what `rest` sees.
 pub fn rest<'a, R: Wait + Clock>(
     rt: &R,
     shared: &'a SharedHeap,

@@ -1,4 +1,4 @@
--- The longest beginning of pages for which there is room.
+-- The longest prefix of a list of pages for which there is space.
 use Rattle.std.proofs.Common.{◌≡◌, ℕ, zero, suc, ◌+◌, ◌^◌, ◌<◌, ◌≤◌, ◌&&◌, Bool, true, false, List, [], ◌∷◌, ◌++◌}
 use Rattle.std.proofs.Common.{length, get_or, map, min, take, nat_le, refl, sym, ap, ap₂, ◌∙◌, subst, arith}
 use Rattle.std.proofs.Common.{append-nil}
@@ -14,11 +14,11 @@ use Rattle.choosing.specs.Packings.{pack, first_packing}
 use Rattle.choosing.specs.Choices.{IsLongest, has_room_for, page_of, sizes_on}
 use Rattle.choosing.proofs.Packed.{grown, pack_behind, targets_counted}
 
--- behind the live objects of these pages
+-- after the live objects of these pages
 abbrev pub behind : HeapState → List ℕ → Packing
 behind h ns = pack h.store.words first_packing (flat_map (sizes_on h) ns)
 
--- it counts the targets of their plan
+-- its count is that of the targets of their plan
 targets_behind : (h : HeapState) (ns : List ℕ) → target_count (plan_of h ns) ≡ (behind h ns).count
 targets_behind h ns = ap target_count (sym (sizes_planned h ns))
     ∙ targets_counted h.store.words (flat_map (sizes_on h) ns)
@@ -43,7 +43,7 @@ no_room h ns many = by (nat_le t (free_count h.store)) (nat_le t (unused_count h
     by true false e f = refl
     by false b e f = refl
 
--- behind more pages there are no fewer targets
+-- after more pages there are no fewer targets
 behind_more : (h : HeapState) (ns ms : List ℕ) → (behind h ns).count ≤ (behind h (ns ++ ms)).count
 behind_more h ns ms =
     let w = h.store.words in
@@ -55,7 +55,7 @@ behind_more h ns ms =
     ∙ pack_behind w first_packing (flat_map (sizes_on h) ns) (flat_map (sizes_on h) ms) in
     omega (arith, rest.more, ap (λ (z : Packing). z.count) is)
 
--- a list up to a place is one up to an earlier place, and more
+-- a prefix of a list is a shorter prefix, and more
 longer : {X : Type 0} (k j : ℕ) (xs : List X) → k ≤ j → (ys : List X) × (take j xs ≡ take k xs ++ ys)
 longer zero j xs less = (take j xs, refl)
 longer (suc k) j [] less = ([], take_none j)
@@ -70,7 +70,7 @@ longer (suc k) (suc j) (x ∷ xs) less = let rest = longer k j xs (omega (arith,
       ∷ l) rest.1,
 )
 
--- what is chosen so far: the first i pages, for which there is room
+-- what is chosen so far: the first i pages, for which there is space
 pub record IsBeginning (h : HeapState) (ns : List ℕ) (i : ℕ) (xs : List ℕ) (s : Packing) : Type 0 where
   pub chosen : xs ≡ take i ns
   pub packed : s ≡ behind h (take i ns)
@@ -101,7 +101,7 @@ page_next (p ∷ ps) (suc i) d near =
 pub begins : (h : HeapState) (ns : List ℕ) → IsBeginning h ns 0 [] first_packing
 begins h ns = record { chosen = refl; packed = refl; room = omega arith; offset = omega arith; target = omega arith }
 
--- there is room for one more page
+-- there is space for one more page
 pub goes_on : (h : HeapState) (ns : List ℕ) (i n : ℕ) (xs new : List ℕ) (s t : Packing) → IsBeginning h ns i xs s
     → take (i + 1) ns ≡ take i ns ++ n ∷ [] → t ≡ pack h.store.words s (sizes_on h n) → t.count ≤ room_in h
     → t.offset < 2 ^ 17
@@ -117,7 +117,7 @@ goes_on h ns i n xs new s t b next is few low more =
       target = omega (arith, g.there, ap (λ (z : Packing). z.count) all, ap (λ (z : Packing). z.target) all);
     }
 
--- there is no room for one more page
+-- there is no space for one more page
 pub is_cut : (h : HeapState) (ns : List ℕ) (i : ℕ) (n : ℕ) (xs : List ℕ) (s t : Packing) → IsBeginning h ns i xs s
     → take (i + 1) ns ≡ take i ns ++ n ∷ [] → t ≡ pack h.store.words s (sizes_on h n) → room_in h < t.count
     → IsLongest h ns xs
@@ -136,7 +136,7 @@ is_cut h ns i n xs s t b next is many = (
       )),
 )
 
--- there is room for all
+-- there is space for all
 pub is_whole : (h : HeapState) (ns : List ℕ) (i : ℕ) (xs : List ℕ) (s : Packing) → IsBeginning h ns i xs s
     → length ns ≤ i → IsLongest h ns xs
 is_whole h ns i xs s b ends = (

@@ -31,12 +31,12 @@ module _ (h : HeapState) (n : ℕ) (low : 0 < n) (s : Packing) where
   row_packed r e = ap (λ row. pack h.store.words s (map (size_on h n) (offsets_from 0 row)))
       (sym (of_page_some h.live n r low e))
 
--- objects behind others
+-- objects after others
 pub pack_behind : (w : ℕ) (s : Packing) (ms ns : List ℕ) → pack w s (ms ++ ns) ≡ pack w (pack w s ms) ns
 pack_behind w s [] ns = refl
 pack_behind w s (m ∷ ms) ns = pack_behind w (pack_one w s m) ms ns
 
--- how many targets these places are in, or so many where there are none
+-- how many targets these places are in; a given number if there are none
 abbrev count_or : ℕ → List (ℕ × ℕ) → ℕ
 count_or c [] = c
 count_or c (p ∷ ps) = target_count (p ∷ ps)
@@ -45,7 +45,7 @@ more_places : (p : ℕ × ℕ) (ps : List (ℕ × ℕ)) → target_count (p ∷ 
 more_places p [] = refl
 more_places p (q ∷ ps) = refl
 
--- behind an object that fits, and behind one that opens a target
+-- after an object that fits, and after one that opens a target
 abbrev fits : Packing → ℕ → Packing
 fits s n = record { target = s.target; offset = s.offset + n; count = s.target + 1 }
 
@@ -71,11 +71,11 @@ no_places : (ps : List (ℕ × ℕ)) → target_count ps ≡ count_or 0 ps
 no_places [] = refl
 no_places (p ∷ ps) = refl
 
--- it counts the targets of the plan
+-- its count is that of the targets of the plan
 pub targets_counted : (w : ℕ) (ns : List ℕ) → target_count (places_from w 0 0 ns) ≡ (pack w first_packing ns).count
 targets_counted w ns = no_places (places_from w 0 0 ns) ∙ counted w first_packing ns
 
--- there are no fewer targets behind more objects, and the present one is the last
+-- there are no fewer targets after more objects, and the present one is the last
 pub record IsGrown (s t : Packing) : Type 0 where
   pub more : s.count ≤ t.count
   pub last : t.count ≤ t.target + 1

@@ -24,7 +24,7 @@ pub total_all : (f : ℕ → ℕ) (left : List ℕ) (total whole : ℕ) → left
     ≡ whole
 total_all f left total whole none so = omega (arith, ap (sum_by f) none, so)
 
--- a bit that is set stands in its row
+-- a bit that is set is within its bitmap
 pub within : (row : List Bool) (k : ℕ) → get_or row k false ≡ true → k < length row
 within [] k here = absurd (true≢false (sym here))
 within (b ∷ row) zero here = omega arith
@@ -46,7 +46,7 @@ next_is h percent i = let at : suc i ≡ i + 1 = omega arith in
     subst (λ (k : ℕ). sparse_to h percent k ≡ (if is_sparse h percent k then sparse_to h percent i ++ measured h k
     ∷ [] else sparse_to h percent i)) at refl
 
--- one more page was looked at, which is sparse, or not
+-- one more page was measured, which is sparse, or not
 pub sparse_more : (h : HeapState) (percent i : ℕ) (m : ℕ × ℕ) (found new : List (ℕ × ℕ)) → Some m
     ≡ measured_if h percent (i + 1)
     → found ≡ sparse_to h percent i → new ≡ found ++ m ∷ [] → new ≡ sparse_to h percent (i + 1)

@@ -1,4 +1,4 @@
-//! The choice of pages.
+//! Relocation-set selection.
 
 ghost use Rattle.std.specs.Prelude.{◌≡◌, map, min, IfOk};
 ghost use Rattle.std.specs.List.{All};
@@ -10,7 +10,7 @@ use crate::sparse::sparse;
 use heap::Heap;
 use std::alloc::{AllocError, Global};
 
-/// How many targets there is room for: as many as there are free frames and unused pages.
+/// Returns for how many targets there is space: the lesser of the numbers of free frames and of unused pages.
 #[tactic(auto, unfolding(model::specs::Protections::free_count))]
 pub fn room(heap: &Heap) -> u32
     ensures { result ≡ min (free_count heap.now.store) (unused_count heap.now.store) }
@@ -20,7 +20,8 @@ pub fn room(heap: &Heap) -> u32
     if frames < pages { frames } else { pages }
 }
 
-/// The longest beginning of pages for which there is room.
+/// Returns the longest prefix of pages, each with its live words before it, for whose plan there is space. Fails only
+/// if out of memory.
 fn cut(alloc: Global, heap: &Heap, pages: &[(u64, u32)]) -> Result<Vec<u32>, AllocError>
     requires { All (ArePages heap.now) pages.now }
     ensures { IfOk result (λ chosen. IsLongest heap.now (map page_of pages.now) chosen.items) }
@@ -39,9 +40,9 @@ fn cut(alloc: Global, heap: &Heap, pages: &[(u64, u32)]) -> Result<Vec<u32>, All
     Ok(chosen)
 }
 
-/// The closed pages of which at most so many words of a hundred are live, by rising live words and, of
-/// as many, by rising numbers, cut to the longest beginning for whose plan there are enough free frames
-/// and unused pages. The error is want of memory.
+/// Returns the relocation set: the closed pages of which at most a percentage of the words is live, by rising numbers
+/// of live words, and by rising page numbers if these are equal, cut to the longest prefix for whose plan there are
+/// enough free frames and unused pages. Fails only if out of memory.
 pub fn choose(alloc: Global, heap: &Heap, percent: u32) -> Result<Vec<u32>, AllocError>
     ensures { IfOk result (λ pages. IsChoice heap.now percent pages.items) }
 {

@@ -1,5 +1,5 @@
-//! Which pages are worth to be emptied: closed ones with few live words, as many as there is room for
-//! (ours; that pages with little live data are emptied is the paper's Relocate phase).
+//! Relocation-set selection: the closed pages with the fewest live words for which there are free frames and unused
+//! pages.
 #![tactic(auto)]
 
 mod choosing;

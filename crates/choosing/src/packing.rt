@@ -8,7 +8,7 @@ ghost use Rattle.choosing.specs.Packings.{has_page_for, pack, pack_if, pack_one,
 
 use heap::{Heap, Row};
 
-/// Where the next object would go, and how many targets those before it are in.
+/// Where the next object would go, and how many targets the objects before it are in.
 #[derive(Clone, Copy, Debug, PartialEq, Eq)]
 pub struct Packing {
     /// The number of the present target, from 0.
@@ -19,7 +19,7 @@ pub struct Packing {
     pub count: u64,
 }
 
-/// Before all objects.
+/// Returns the packing before all objects.
 pub fn first_packing() -> Packing
     ensures { result ≡ first_packing }
 {
@@ -30,7 +30,7 @@ pub fn first_packing() -> Packing
     }
 }
 
-/// Behind one more object.
+/// Returns the packing after one more object, of `size` words, in targets of `words` words.
 #[tactic(auto, unfolding(crate::specs::Packings::pack_one))]
 fn pack_one(words: u32, before: Packing, size: u32) -> Packing
     requires targets { before.target < 2 ^ 34 }
@@ -56,7 +56,7 @@ fn pack_one(words: u32, before: Packing, size: u32) -> Packing
     }
 }
 
-/// Behind the live objects of a page, by its number from 1 and its row of live bits.
+/// Returns the packing after the live objects of a page, by its number from 1 and its live bitmap.
 fn pack_row(heap: &Heap, page: u32, row: &Row, before: Packing) -> Packing
     requires low { 0 < page }
     requires high { page ≤ heap.now.store.count }
@@ -78,7 +78,7 @@ fn pack_row(heap: &Heap, page: u32, row: &Row, before: Packing) -> Packing
     packing
 }
 
-/// Behind the live objects of a page, by its number from 1.
+/// Returns the packing after the live objects of a page, by its number from 1.
 pub(crate) fn pack_page(heap: &Heap, page: u32, before: Packing) -> Packing
     requires low { 0 < page }
     requires high { page ≤ heap.now.store.count }
@@ -94,7 +94,7 @@ pub(crate) fn pack_page(heap: &Heap, page: u32, before: Packing) -> Packing
     }
 }
 
-/// Whether there is a page of this number, and no more was packed than a heap can have.
+/// Returns whether there is a page of this number, and no more was packed than a heap can have.
 fn has_page_for(heap: &Heap, page: u32, before: &Packing) -> bool
     ensures { result ≡ has_page_for heap.now page before.now }
 {
@@ -104,9 +104,8 @@ fn has_page_for(heap: &Heap, page: u32, before: &Packing) -> bool
         && before.offset < 131_072
 }
 
-/// Where the next object would go behind the live objects of a page, by its number from 1, that are
-/// packed behind others. `None` where there is no such page, or more was packed than a heap can have. It
-/// reads the headers of the live objects of that page alone.
+/// Returns the packing after the live objects of a page, by its number from 1, that follow others. `None` if there is
+/// no such page, or more was packed than a heap can have. Reads no headers but those of that page's live objects.
 pub fn packed_page(heap: &Heap, page: u32, before: Packing) -> Option<Packing>
     ensures { result ≡ pack_if heap.now page before }
 {

@@ -9,7 +9,7 @@ use heap::{Heap, Row};
 use model::PageState;
 use std::alloc::{AllocError, Global};
 
-/// How many words the live objects of a page have, by its number from 1 and its row of live bits.
+/// Returns how many words the live objects of a page have, by its number from 1 and its live bitmap.
 fn row_words(heap: &Heap, page: u32, row: &Row) -> u64
     requires low { 0 < page }
     requires high { page ≤ heap.now.store.count }
@@ -28,7 +28,7 @@ fn row_words(heap: &Heap, page: u32, row: &Row) -> u64
     total
 }
 
-/// How many words the live objects of a page have, by its number from 1.
+/// Returns how many words the live objects of a page have, by its number from 1.
 fn live_words(heap: &Heap, page: u32) -> u64
     requires low { 0 < page }
     requires high { page ≤ heap.now.store.count }
@@ -42,15 +42,15 @@ fn live_words(heap: &Heap, page: u32) -> u64
     }
 }
 
-/// Whether a page is closed.
+/// Returns whether a page is closed.
 fn is_closed(heap: &Heap, page: u32) -> bool
     ensures { result ≡ is_closed_at heap.now page }
 {
     matches!(heap.memory().state(page), PageState::Closed)
 }
 
-/// A page, by its number from 1, behind its live words: where it is closed, and of its words at most so
-/// many of a hundred are live; else `None`. It reads the headers of the live objects of that page alone.
+/// Returns a page, by its number from 1, with its number of live words before it, if it is closed and at most a
+/// percentage of its words is live; else `None`. Reads no headers but those of that page's live objects.
 #[tactic(auto, using(crate::proofs::Numbered::closed_low, crate::proofs::Numbered::closed_high))]
 pub fn measured(heap: &Heap, percent: u32, page: u32) -> Option<(u64, u32)>
     ensures { result ≡ measured_if heap.now percent page }
@@ -68,8 +68,8 @@ pub fn measured(heap: &Heap, percent: u32, page: u32) -> Option<(u64, u32)>
     }
 }
 
-/// The closed pages of which at most so many words of a hundred are live, each behind its live words,
-/// by their numbers.
+/// Returns the closed pages of which at most a percentage of the words is live, each with its number of live words
+/// before it, by rising page numbers. Fails only if out of memory.
 #[tactic(auto, using(crate::proofs::Sums::sparse_more, crate::proofs::Sums::sparse_same))]
 pub(crate) fn sparse(
     alloc: Global,

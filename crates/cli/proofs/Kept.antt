@@ -1,4 +1,4 @@
--- What was written stays so where the rest of the buffer is written out.
+-- What was written stays when the rest of the buffer is written.
 use Rattle.std.proofs.Common.{ℕ, List, Option, Some, None, ◌∙◌, rules}
 use Rattle.std.specs.Prelude.{Result, Ok, Err, IsOk, OnOk}
 use Rattle.std.specs.Io.KnownBytes.{Appends, Keeps}

@@ -1,5 +1,5 @@
--- What clap makes of words of which none begins with '-', for the program's command: one and none are too few,
--- three are too many, and two are its values.
+-- How clap parses words that don't begin with '-', for the program's command: none or one are too few, three are too
+-- many, and two are its values.
 use Rattle.std.proofs.Common.{◌≡◌, ◌∙◌, ◌==◌, ◌∷◌, ℕ, Bool, true, false, List, []}
 use Rattle.std.proofs.Common.{Some, None, refl, sym, ap, ap₂, codes, is_some, fold}
 use Rattle.std.specs.Prelude.{if◌then◌else◌, option_and_then, option_map, unwrap_or}
@@ -49,7 +49,7 @@ plain_word_fault s (x ∷ xs) h e =
     let other = not-true (x == 45) e in
     rw (other, no_bundle x xs other) refl
 
--- the walk at a place, with nothing that waits
+-- the walk at a place, with no pending word
 abbrev at_place : ℕ → Held → Walk
 at_place place h = record { held = h; waiting = idle; position = place; is_trailing = false; stopped = None }
 
@@ -81,7 +81,7 @@ word_fold place h word rest e = ap (λ (w : Walk). fold (walked rules []) w rest
 
 -- ---- after the words
 
--- what is found wrong in all, by what is wrong with the words and where the walk ends
+-- the faults in all, by the faults in the words and where the walk ends
 abbrev in_all : Kinds → Walk → Kinds
 in_all words end = or_else words
     (or_else (entered_fault (built program) end.stopped) (or_else (settle_fault rules top.args_override_self end.held)
@@ -101,7 +101,7 @@ fault_after : (name : Text) (words : List Text) (wrong : Kinds) (end : Walk)
     → fault_of program (name ∷ words) ≡ in_all wrong end
 fault_after name words wrong end f w = ap₂ in_all f w
 
--- what is held after one word, and after two
+-- the values after one word, and after two
 abbrev held_one : Text → Held
 held_one a = (after_word 1 nothing_held a).held
 
@@ -158,9 +158,9 @@ pub file_value : (name a b : Text) → is_plain_word a ≡ true → is_plain_wor
     → first_of (codes "file") (matches_of program (name ∷ a ∷ b ∷ [])) ≡ Some b
 file_value name a b e f = ap (first_of (codes "file")) (two_matches name a b e f)
 
--- ---- what the program answers
+-- ---- the program's result
 
--- words of which none begins with '-' are refused unless they are two
+-- words that don't begin with '-' are rejected unless there are two
 pub refused_asks : (words : List Text) → are_plain words ≡ true
     → (fault_of program (codes "pauseless" ∷ words) ≡ [] → ⊥) → asked_by words ≡ None
 refused_asks [] e bad = refl
@@ -176,7 +176,7 @@ some_fault words x xs e none =
     let same : x ∷ xs ≡ [] = sym e ∙ none in
     cc
 
--- and taken where they are two, with the mode first
+-- and accepted if there are two, with the mode first
 pub taken_are : (words : List Text) (f : Found) → are_plain words ≡ true
     → fault_of program (codes "pauseless" ∷ words) ≡ []
     → rows_of f ≡ matches_of program (codes "pauseless" ∷ words)
@@ -201,7 +201,7 @@ taken_are (a ∷ b ∷ c ∷ rest) f e none rows =
     let r = both _ _ q.1 in
     absurd (some_fault _ _ _ (more_words (codes "pauseless") a b c rest p.0 q.0 r.0) none)
 
--- what is answered, by what the parse made of the program's name and the words
+-- the result, by how the program's name and the words were parsed
 module _ (texts words : List Text) (named : texts ≡ codes "pauseless" ∷ words) (plain : are_plain words ≡ true) where
   pub refused_answer : (fault_of program texts ≡ [] → ⊥) → asked_by words ≡ None
   refused_answer bad = refused_asks words plain (λ none. bad (ap (fault_of program) named ∙ none))
@@ -211,7 +211,7 @@ module _ (texts words : List Text) (named : texts ≡ codes "pauseless" ∷ word
         × (first_value f (codes "file") ≡ Some file)
     values = taken_are words f plain (ap (fault_of program) (sym named) ∙ none) (rows ∙ ap (matches_of program) named)
 
-    -- both have values, and what they ask for is what the words do
+    -- both have values, and the words request what these do
     pub both_asked : (name file : Text) → first_value f (codes "mode") ≡ Some name
         → first_value f (codes "file") ≡ Some file → asked_by words ≡ option_map (λ m. (m, file)) (mode_named name)
     both_asked name file mode at =

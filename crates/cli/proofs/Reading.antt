@@ -1,4 +1,4 @@
--- Reading a reader to its end, or to one byte more than a script may have.
+-- Reading a reader to its end, or one byte more than the limit of a script.
 use Rattle.std.proofs.Common.{◌≡◌, ℕ, ◌+◌, ◌≤◌, List, [], ◌++◌, length, take, Option}
 use Rattle.std.proofs.Common.{Some, None, IfSome, inl, inr, ◌∙◌, ap, subst, arith, rules}
 use Rattle.std.specs.Option.{option_map}
@@ -9,13 +9,13 @@ use Rattle.std.proofs.lemmas.Bool.{cases_lt}
 use Rattle.parser.specs.Scripts.{IsTooLong, ParsedScript}
 use Rattle.cli.specs.Running.{HasFault, HoldsScript, IsNoScript, Prints, ReadsUpTo}
 
--- what is shorter than what was asked for is all
+-- fewer bytes than requested are all
 pub whole : (limit : ℕ) (all bytes : List ℕ) → bytes ≡ take (limit + 1) all → length bytes ≤ limit → bytes ≡ all
 whole limit all bytes e h =
     let size : length (take (limit + 1) all) ≤ limit = subst (λ (b : List ℕ). length b ≤ limit) e h in
     e ∙ take_all (limit + 1) all (omega (arith, size, length-take (limit + 1) all))
 
--- what was printed of the bytes that were read was printed of all
+-- what was printed for the bytes that were read is printed for all
 pub prints_all : {E T A : Type 0} (r : Result Unit E) (known : Option (List ℕ)) (bytes : List ℕ)
     (contents : T → Option (List ℕ)) (old new : BufWriter T A) → ReadsUpTo known bytes
     → OnOk r (Prints contents old new bytes) → OnOk r (IfSome known (Prints contents old new))
@@ -24,7 +24,7 @@ prints_all (Ok u) None bytes contents old new h p = search rules
 prints_all (Ok u) (Some all) bytes contents old new h p =
     subst (Prints contents old new) (whole 4194304 all bytes h p.fits) p
 
--- what a reader with a limit gives
+-- the bytes that a reader with a limit reads
 pub read_up_to : (limit n : ℕ) (known inner : Option (List ℕ)) (old bytes : List ℕ)
     → n ≡ limit → inner ≡ known → old ≡ [] → IfSome (option_map (take n) inner) (λ xs. bytes ≡ old ++ xs)
     → IfSome known (λ all. bytes ≡ take limit all)
@@ -34,7 +34,7 @@ read_up_to limit n (Some all) inner old bytes e i o h =
     subst (λ k. IfSome (option_map (take n) k) (λ xs. bytes ≡ old ++ xs)) i h in
     there ∙ ap (λ xs. xs ++ take n all) o ∙ ap (λ k. take k all) e
 
--- what holds of what was read holds of all: of too many bytes it holds, and else they are the same
+-- a property of what was read holds for all: it holds for too many bytes, else they are the same
 pub fault_all : (Q : List ℕ → Type 0) (known : Option (List ℕ)) (bytes : List ℕ)
     → ((all : List ℕ) → IsTooLong all → Q all) → IfSome known (λ all. bytes ≡ take (4194304 + 1) all)
     → Q bytes → IfSome known Q
@@ -50,7 +50,7 @@ faults_all : {X E : Type 0} (Q : List ℕ → Type 0) (r : Result X E) (P : E �
 faults_all Q (Ok u) P known bytes too_long h k = search rules
 faults_all Q (Err e) P known bytes too_long h k = λ p. fault_all Q known bytes too_long h (k p)
 
--- the same of the faults of a run, and of a text alone
+-- the same for the errors of a run, and for a text alone
 pub run_faults : {X E : Type 0} (r : Result X E) (P : E → Type 0) (known : Option (List ℕ)) (bytes : List ℕ)
     → ReadsUpTo known bytes
     → IfErr r (λ e. P e → HasFault bytes) → IfErr r (λ e. P e → IfSome known HasFault)
@@ -61,7 +61,7 @@ pub text_faults : {X E : Type 0} (r : Result X E) (P : E → Type 0) (known : Op
     → IfErr r (λ e. P e → IsNoScript bytes) → IfErr r (λ e. P e → IfSome known IsNoScript)
 text_faults r P known bytes h k = faults_all IsNoScript r P known bytes (λ all long. inl long) h k
 
--- the script that was read is that of all
+-- the script that was read is that of all bytes
 pub script_all : {E : Type 0} (r : Result ParsedScript E) (known : Option (List ℕ)) (bytes : List ℕ)
     → ReadsUpTo known bytes → IfOk r (λ s. HoldsScript s bytes) → IfOk r (λ s. IfSome known (HoldsScript s))
 script_all (Err e) known bytes h held = search rules

@@ -1,4 +1,4 @@
--- What the words of the command line ask for.
+-- The meaning of the command line's words.
 use Rattle.std.specs.Prelude.{ℕ, Bool, true, not, ◌==◌, List, [], ◌∷◌, Option, Some, None}
 use Rattle.std.specs.Prelude.{if◌then◌else◌, option_map, codes}
 use Rattle.std.specs.Str.{bytes_eq}
@@ -22,7 +22,7 @@ mode_named name =
     (if bytes_eq name (codes "check") then Some Check else
     (if bytes_eq name (codes "threads") then Some Threads else None))
 
--- two words ask for something: the name of a mode, and that of a file
+-- the mode and the file name of two words, if the first is a mode's name
 abbrev pub asked_by : List (List ℕ) → Option (Mode × List ℕ)
 asked_by (name ∷ file ∷ []) = option_map (λ mode. (mode, file)) (mode_named name)
 asked_by _ = None

@@ -4,7 +4,7 @@ use Rattle.std.specs.Borrow.{Bor}
 use Rattle.clap.specs.Words.{App, Rule, Text, new_app, new_rule, with_rule}
 use Rattle.clap.specs.declared.builder.action.ArgAction.TheVariants.{Set}
 
--- the texts behind references
+-- the texts of borrowed strings
 abbrev pub texts_in : List (Bor (List ℕ)) → List (List ℕ)
 texts_in = map (λ text. text.now)
 

@@ -1,4 +1,4 @@
--- What serving a script promises.
+-- The promises of running a script.
 use Rattle.std.specs.Prelude.{◌≡◌, ◌≤◌, ◌⊎◌, ℕ, ◌+◌, true, List, length, take, Option, Ok, IfSome, IsErr}
 use Rattle.std.specs.Io.Buffered.{writer_contents}
 use Rattle.std.specs.Io.KnownBytes.{Appends}
@@ -14,11 +14,11 @@ use Rattle.script.specs.declared.fault.RunFault.TheVariants as runs
 use Rattle.cli.specs.declared.running.ServeFault.{ServeFault}
 use Rattle.cli.specs.declared.running.ServeFault.TheVariants.{Parse, Run}
 
--- what was read of a reader: all that it has, or one byte more than a script may have
+-- the bytes that were read: all that the reader has, or one more than `MOST_BYTES`
 abbrev pub ReadsUpTo : Option (List ℕ) → List ℕ → Type 0
 ReadsUpTo known bytes = IfSome known (λ all. bytes ≡ take (MOST_BYTES + 1) all)
 
--- the bytes are no more than a script may have, they are a script, and its output was written behind what was there
+-- the bytes are at most `MOST_BYTES`, they are a script, and its output was appended to what was there
 pub record Prints {T A : Type 0} (contents : T → Option (List ℕ)) (old new : BufWriter T A) (bytes : List ℕ)
     : Type 0 where
   pub fits : length bytes ≤ MOST_BYTES
@@ -26,8 +26,8 @@ pub record Prints {T A : Type 0} (contents : T → Option (List ℕ)) (old new :
   pub read : script_in bytes ≡ Ok script
   pub written : Appends (writer_contents contents old) (writer_contents contents new) (output_text script)
 
--- the bytes are no more than a script may have, and they are this script; where its first commands stand that not
--- every run does is said by their lines
+-- the bytes are at most `MOST_BYTES`, and they are this script, with the places of its first commands that not every
+-- kind of run does
 pub record HoldsScript (script : ParsedScript) (bytes : List ℕ) : Type 0 where
   pub fits : length bytes ≤ MOST_BYTES
   pub read : script_in bytes ≡ Ok (script_alone script)
@@ -52,6 +52,6 @@ fault_status (Parse TooLong) = 2
 fault_status (Run (runs.Line fault)) = 2
 fault_status _ = 3
 
--- an exit status: of what is done, of a fault of the script or of usage, of all else
+-- the exit status: 0 if done, 2 for a fault of the script or of usage, 3 for all else
 abbrev pub IsStatus : ℕ → Type 0
 IsStatus status = (status ≡ 0) ⊎ ((status ≡ 2) ⊎ (status ≡ 3))

@@ -1,4 +1,4 @@
--- What serving a script by threads promises.
+-- The promises of running a script by threads.
 use Rattle.std.specs.Prelude.{◌≡◌, ◌⊎◌, ℕ, true, false, List, Option, Some, Result, Ok, Err}
 use Rattle.std.specs.Io.KnownBytes.{Appends}
 use Rattle.model.specs.declared.steps.Actor.{Actor}
@@ -15,7 +15,7 @@ use Rattle.cli.specs.Running.{HoldsScript, IsNoScript}
 use Rattle.cli.specs.declared.running.ServeFault.{ServeFault}
 use Rattle.cli.specs.declared.running.ServeFault.TheVariants.{Parse}
 
--- the bytes are no more than a script may have, and a script of which threads do all commands
+-- the bytes are at most `MOST_BYTES`, and a script whose commands a run by threads does
 abbrev pub IsRaced : List ℕ → Type 0
 IsRaced bytes = (s : ParsedScript) × HoldsScript s bytes × (needs_schedule s.commands ≡ false)
 
@@ -23,11 +23,11 @@ IsRaced bytes = (s : ParsedScript) × HoldsScript s bytes × (needs_schedule s.c
 abbrev pub NeedsSchedule : List ℕ → Type 0
 NeedsSchedule bytes = (s : ScriptValue) × (script_in bytes ≡ Ok s) × (needs_schedule s.commands ≡ true)
 
--- the bytes are too many for a script, or no script, or one that threads don't do
+-- the bytes are too many for a script, or no script, or one with a command that a run by threads doesn't do
 abbrev pub HasRaceFault : List ℕ → Type 0
 HasRaceFault bytes = IsNoScript bytes ⊎ NeedsSchedule bytes
 
--- Behind what was there stands the text of seats that agree with the history of a book.
+-- The text of seats that agree with the history of a recorded heap was appended.
 pub record TellsSettled (old new : Option (List ℕ)) : Type 0 where
   pub book : BookState
   pub law : IsBook book
@@ -35,11 +35,11 @@ pub record TellsSettled (old new : Option (List ℕ)) : Type 0 where
   pub settled : AreSettled book.history seats
   pub written : Appends old new (settled_text seats)
 
--- Behind what was there stands the line of a stray actor.
+-- The line of a stray actor was appended.
 abbrev pub TellsStray : Option (List ℕ) → Option (List ℕ) → Type 0
 TellsStray old new = (actor : Actor) × Appends old new (stray_text actor)
 
--- a run that wasn't done, since the script has a command that such a run doesn't do: the first one is told
+-- a run that wasn't begun, since the script has a command that such a run doesn't do: its fault is the first one's
 abbrev pub TellsFault : {X : Type 0} → Option LineFault → Result X ServeFault → Type 0
 TellsFault first (Err (Parse (Line fault))) = first ≡ Some fault
 TellsFault first other = ⊥

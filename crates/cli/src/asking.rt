@@ -1,4 +1,4 @@
-//! What the words of the command line ask for.
+//! The meaning of the command line's words.
 
 ghost use Rattle.std.specs.Prelude.{◌≡◌, ◌≢◌, ◌∷◌, [], true, Some, None, Err, IfOk, IfErr, map, codes, string_bytes};
 ghost use Rattle.std.specs.IoError.{error_kind};
@@ -14,10 +14,10 @@ use std::alloc::{AllocError, AllocFailed, Global};
 use std::io;
 use thiserror::Error;
 
-/// What to do with a script.
+/// How a script is run.
 #[derive(Clone, Copy, Debug, PartialEq, Eq)]
 pub enum Mode {
-    /// Its commands are done in order.
+    /// The commands are done in order.
     Run,
     /// The same, and the heap is verified after each step.
     Check,
@@ -46,13 +46,13 @@ pub struct Asked {
     file: String,
 }
 
-/// Why nothing can be done.
+/// Why nothing can be run.
 #[derive(Clone, Copy, Debug, PartialEq, Eq, Error)]
 pub enum AskFault {
     /// The words aren't a mode and a file.
     #[error("usage: pauseless run|threads|check FILE")]
     Usage,
-    /// Memory was refused.
+    /// Out of memory.
     #[error("pauseless: out of memory")]
     Memory,
 }
@@ -74,8 +74,8 @@ impl<T: Drop> From<AllocFailed<T>> for AskFault {
 }
 
 impl AskFault {
-    /// Why the words of the command line can't be had: memory was refused, or a word isn't UTF-8,
-    /// which is the usage fault (ours), as the kit opens no file of such a name.
+    /// Returns the error if the words of the command line can't be read: `Memory` if out of memory, else `Usage`, for
+    /// a word that isn't UTF-8, as no file with such a name can be opened.
     pub fn of_words(error: &io::Error) -> AskFault
         ensures memory { result ≡ Memory → error_kind error.now ≡ OutOfMemory }
         ensures usage { result ≡ Usage → error_kind error.now ≢ OutOfMemory }
@@ -86,8 +86,8 @@ impl AskFault {
         AskFault::Usage
     }
 
-    /// Writes its line to `errors`, and gives the exit status: 2 for words that are no mode and
-    /// file, 3 for want of memory (ours). That the line can't be written changes nothing.
+    /// Writes its line to `errors`, and returns the exit status: 2 for words that are no mode and file, 3 if out of
+    /// memory. If the line can't be written, the status is the same.
     pub fn tell<E: io::Write>(self, errors: &mut E) -> u8
         ensures usage { self ≡ Usage → result ≡ 2 }
         ensures memory { self ≡ Memory → result ≡ 3 }
@@ -101,14 +101,14 @@ impl AskFault {
 }
 
 impl Asked {
-    /// What to do with the script.
+    /// Returns how the script is run.
     pub fn mode(&self) -> Mode
         ensures { result ≡ self.now.mode }
     {
         self.mode
     }
 
-    /// The name of the script's file.
+    /// Returns the name of the script's file.
     pub fn file(&self) -> &str
         ensures { result.now ≡ string_bytes self.now.file }
     {
@@ -116,7 +116,7 @@ impl Asked {
     }
 }
 
-/// The command of which the words are read: two required arguments, and no flag.
+/// Returns the command that parses the words: two required arguments, and no flag.
 fn command<'a>(alloc: Global) -> Result<Command<'a>, AllocError>
     ensures { IfOk result (λ command. app_of command ≡ program) }
 {
@@ -132,7 +132,7 @@ fn command<'a>(alloc: Global) -> Result<Command<'a>, AllocError>
     bare.arg(mode)?.arg(file)
 }
 
-/// The words, behind the program's name.
+/// Returns the program's name and the words.
 fn named<'w>(alloc: Global, words: &'w [String]) -> Result<Vec<&'w str>, AskFault>
     ensures texts { IfOk result (λ found. texts_in found.items ≡ codes "pauseless" ∷ map string_bytes words.now) }
     ensures memory { IfErr result (λ fault. fault ≡ Memory) }
@@ -145,7 +145,7 @@ fn named<'w>(alloc: Global, words: &'w [String]) -> Result<Vec<&'w str>, AskFaul
     Ok(texts)
 }
 
-/// What is found in the texts, by the program's command.
+/// Returns the matches of the texts, by the program's command.
 fn found<'a>(alloc: Global, texts: &'a [&'a str]) -> Result<ArgMatches<'a>, AskFault>
     ensures rows { IfOk result (λ matches. rows_of (found_of matches) ≡ matches_of program (texts_in texts.now)) }
     ensures taken { IfOk result (λ _. fault_of program (texts_in texts.now) ≡ []) }
@@ -160,17 +160,16 @@ fn found<'a>(alloc: Global, texts: &'a [&'a str]) -> Result<ArgMatches<'a>, AskF
     }
 }
 
-/// What the words ask for, without the program's name (ours). They are a mode, `run`, `check` or
-/// `threads`, and the name of a file; all else is the usage fault. It answers `Memory` where memory was refused.
+/// Returns what the words request, without the program's name: a mode, `run`, `check` or `threads`, and the name of a
+/// file. Fails with `Usage` for all other words, and with `Memory` if out of memory.
 ///
-/// No clause speaks of words of which one begins with `-`: they are read by the rules of flags,
-/// of which the program has none.
+/// No clause covers words that begin with `-`: they are parsed by the rules of flags, of which the program has none.
 #[tactic(auto, using(crate::proofs::Parsing::both_there, crate::proofs::Parsing::refused_answer, crate::proofs::Parsing::mode_asked, crate::proofs::Parsing::no_mode_asked))]
 pub fn ask(alloc: Global, words: &[String]) -> Result<Asked, AskFault>
-    // What is asked for is what the words say.
+    // The result is what the words request.
     ensures asked { are_plain (map string_bytes words.now) ≡ true
         → IfOk result (λ asked. asked_by (map string_bytes words.now) ≡ Some (asked.mode, string_bytes asked.file)) }
-    // The usage fault comes only where they say nothing.
+    // `Usage` is returned only if they request nothing.
     ensures usage { are_plain (map string_bytes words.now) ≡ true
         → result ≡ Err Usage → asked_by (map string_bytes words.now) ≡ None }
 {

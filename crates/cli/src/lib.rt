@@ -1,5 +1,5 @@
-//! The command line of the program: what its words ask for, and doing that: a script is read, run on one thread or by
-//! threads, or checked, and its output is written.
+//! The program's command line: parses its words, reads a script, runs it on one thread or by threads, or checks it,
+//! and writes the output.
 #![tactic(auto)]
 
 mod asking;

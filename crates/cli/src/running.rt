@@ -23,12 +23,12 @@ pub enum ServeFault {
     Read,
     /// The bytes are no script.
     Parse(ParseFault),
-    /// The run ended before its end.
+    /// The run ended early.
     Run(RunFault),
 }
 
-/// Writes the line of a file that can't be opened to `errors`, and gives the exit status, which is
-/// 3 (ours). Where memory was refused, the line says so.
+/// Writes the line of a file that can't be opened to `errors`, and returns the exit status, which is 3. If out of
+/// memory, the line reports that.
 pub fn not_opened<E: io::Write>(asked: &Asked, error: &io::Error, errors: &mut E) -> u8
     ensures { result ≡ 3 }
 {
@@ -39,7 +39,7 @@ pub fn not_opened<E: io::Write>(asked: &Asked, error: &io::Error, errors: &mut E
     cannot_read(asked, errors)
 }
 
-/// Writes the line of a file that can't be read, and gives the exit status.
+/// Writes the line of a file that can't be read, and returns the exit status.
 fn cannot_read<E: io::Write>(asked: &Asked, errors: &mut E) -> u8
     ensures { result ≡ 3 }
 {
@@ -48,14 +48,14 @@ fn cannot_read<E: io::Write>(asked: &Asked, errors: &mut E) -> u8
     3
 }
 
-/// How many bytes are read: at most one more than a script may have.
+/// Returns how many bytes are read at most: one more than `MOST_BYTES`.
 fn most_read() -> u64
     ensures { result ≡ MOST_BYTES + 1 }
 {
     MOST_BYTES as u64 + 1
 }
 
-/// The bytes of a script: at most one more than it may have.
+/// Returns the bytes of a script: at most one more than `MOST_BYTES`.
 fn read_bytes<R: io::Read>(alloc: Global, reader: &mut R) -> Result<Vec<u8>, ServeFault>
     ensures bytes { IfOk result (λ bytes. ReadsUpTo (R.remaining reader.old) bytes.items) }
     ensures faults { IfErr result (λ fault. fault_status fault ≡ 3) }
@@ -72,7 +72,7 @@ fn read_bytes<R: io::Read>(alloc: Global, reader: &mut R) -> Result<Vec<u8>, Ser
     }
 }
 
-/// The script that bytes spell.
+/// Returns the script that bytes spell.
 fn script_in(alloc: Global, bytes: &[u8]) -> Result<Script, ServeFault>
     ensures read { IfOk result (λ script. HoldsScript script bytes.now) }
     ensures faults { IfErr result (λ fault. fault_status fault ≡ 2 → IsNoScript bytes.now) }
@@ -86,7 +86,7 @@ fn script_in(alloc: Global, bytes: &[u8]) -> Result<Script, ServeFault>
     }
 }
 
-/// The script that is read. A fault is told by `ServeFault::tell`.
+/// Reads a script. `ServeFault::tell` reports its error.
 pub(crate) fn read_script<R: io::Read>(alloc: Global, reader: &mut R) -> Result<Script, ServeFault>
     ensures read { IfOk result (λ script. IfSome (R.remaining reader.old) (HoldsScript script)) }
     ensures faults { IfErr result (λ fault. fault_status fault ≡ 2 → IfSome (R.remaining reader.old) IsNoScript) }
@@ -128,7 +128,7 @@ fn run_script<W: io::Write + Drop>(
     }
 }
 
-/// Writes out what the buffer still has.
+/// Writes what is left in the buffer.
 pub(crate) fn flushed<W: io::Write + Drop>(output: &mut BufWriter<W>) -> Result<(), ServeFault>
     ensures keeps { OnOk result
         (Keeps (writer_contents W.contents output.old) (writer_contents W.contents output.new)) }
@@ -142,7 +142,7 @@ pub(crate) fn flushed<W: io::Write + Drop>(output: &mut BufWriter<W>) -> Result<
 }
 
 impl ServeFault {
-    /// Writes its line to standard error, and gives the exit status.
+    /// Writes its line to standard error, and returns the exit status.
     pub fn tell<E: io::Write>(self, asked: &Asked, errors: &mut E) -> u8
         ensures { result ≡ fault_status self }
     {
@@ -163,7 +163,7 @@ impl ServeFault {
     }
 }
 
-/// Runs the script that is read.
+/// Reads a script and runs it.
 pub(crate) fn run<R: io::Read, W: io::Write + Drop>(
     alloc: Global,
     reader: &mut R,
@@ -178,7 +178,7 @@ pub(crate) fn run<R: io::Read, W: io::Write + Drop>(
     run_bytes(alloc, &bytes, output)
 }
 
-/// Runs a script, whose heap is verified after each step.
+/// Runs a script, and verifies its heap after each step.
 fn check_script<W: io::Write + Drop>(
     alloc: Global,
     script: &Script,
@@ -201,7 +201,7 @@ fn check_script<W: io::Write + Drop>(
     }
 }
 
-/// Runs the script that the bytes spell, whose heap is verified after each step.
+/// Runs the script that the bytes spell, and verifies its heap after each step.
 fn check_bytes<W: io::Write + Drop>(
     alloc: Global,
     bytes: &[u8],
@@ -216,8 +216,8 @@ fn check_bytes<W: io::Write + Drop>(
     check_script(alloc, &script, output)
 }
 
-/// Runs the script that is read, and verifies its heap after each step. Gives the exit status: 0
-/// where the heap is sound, 1 where a verification found a fault, which none does.
+/// Reads a script, runs it, and verifies its heap after each step. Returns the exit status: 0 if the heap is sound, 1
+/// if a verification found a fault, which none does.
 pub(crate) fn check<R: io::Read, W: io::Write + Drop>(
     alloc: Global,
     reader: &mut R,

@@ -1,4 +1,4 @@
-//! Doing what was asked for, in each mode.
+//! Running a script in each mode.
 
 ghost use Rattle.std.specs.Prelude.{◌≡◌, ◌≢◌, ◌≤◌, [], true, false, Ok, IfErr, IfOk, IfSome, IsOk, OnOk};
 ghost use Rattle.std.specs.Io.KnownBytes.{Keeps};
@@ -21,7 +21,7 @@ use std::io::BufWriter;
 use std::sync::Wait;
 use std::thread::Threads;
 
-/// Writes out what is still in the buffer, where all was written to it.
+/// Writes what is left in the buffer, if all was written to it.
 fn all_told<W: io::Write + Drop>(
     written: io::Result<()>,
     output: &mut BufWriter<W>,
@@ -38,7 +38,7 @@ fn all_told<W: io::Write + Drop>(
     }
 }
 
-/// Writes what is said of a run that is settled. The status is 0.
+/// Writes the lines of a settled run. The status is 0.
 fn told_settled<W: io::Write + Drop>(
     settled: &Settled,
     output: &mut BufWriter<W>,
@@ -56,7 +56,7 @@ fn told_settled<W: io::Write + Drop>(
     Ok(0)
 }
 
-/// Writes what is said of a run with a stray actor. The status is 1.
+/// Writes the line of a run with a stray actor. The status is 1.
 fn told_stray<W: io::Write + Drop>(
     actor: Actor,
     output: &mut BufWriter<W>,
@@ -72,7 +72,7 @@ fn told_stray<W: io::Write + Drop>(
     Ok(1)
 }
 
-/// Runs a script by threads, and writes what the run says.
+/// Runs a script by threads, and writes its lines.
 fn race_script<S: Threads + Wait + Sync, W: io::Write + Drop>(
     rt: &S,
     alloc: Global,
@@ -92,7 +92,7 @@ fn race_script<S: Threads + Wait + Sync, W: io::Write + Drop>(
     match by_threads(rt, alloc, script, &OpenGate) {
         Ok(settled) => {
             let told = told_settled(&settled, output);
-            // (by a call: what goes out of scope is let go in the steps of this function, which are proved)
+            // (by a call: at the end of a scope values are freed in the steps of this function, which are proved)
             drop(settled);
             told
         }
@@ -102,7 +102,7 @@ fn race_script<S: Threads + Wait + Sync, W: io::Write + Drop>(
     }
 }
 
-/// Runs the script that is read by threads, and writes what the run says.
+/// Reads a script, runs it by threads, and writes its lines.
 fn race<S: Threads + Wait + Sync, R: io::Read, W: io::Write + Drop>(
     rt: &S,
     alloc: Global,
@@ -123,14 +123,14 @@ fn race<S: Threads + Wait + Sync, R: io::Read, W: io::Write + Drop>(
     race_script(rt, alloc, &script, output)
 }
 
-/// Reads the script and does what was asked for. Writes to `output` and `errors` as to standard output and standard
-/// error, and returns the exit status.
+/// Reads a script and runs it as requested. Writes to `output` and `errors` as to standard output and standard error,
+/// and returns the exit status.
 ///
-/// 0: it is done; by threads, the seats and the history are settled, and a line for each thread is written. 1: by
-/// threads, they aren't settled, and the line of a stray actor is written; in mode `check`, a verification found a fault
-/// in the heap, which none does. After 0 and 1 nothing of the output waits in the buffer. 2: the script has a fault, or
-/// a command that this mode doesn't do, and `output` is as it was. 3: memory was refused, or the file can't be read, the
-/// output can't be written, or a thread can't be started. A fault is one line of `errors`.
+/// 0: the run is complete; by threads, the seats and the history are settled, and a line for each thread is written.
+/// 1: by threads, they aren't settled, and the line of a stray actor is written; in mode `check`, a verification
+/// found a fault in the heap, which none does. After 0 and 1 the buffer of the output is empty. 2: the script has a
+/// fault, or a command that this mode doesn't do, and `output` is unchanged. 3: out of memory, or the file can't be
+/// read, the output can't be written, or a thread can't be started. An error is one line of `errors`.
 pub fn serve<S: Threads + Wait + Sync, R: io::Read, W: io::Write + Drop, E: io::Write>(
     rt: &S,
     alloc: Global,

@@ -1,4 +1,4 @@
--- Pages that are chosen, as many as there is room for.
+-- Chosen pages, as many as there is space for.
 use Rattle.std.proofs.Common.{◌≡◌, ◌∙◌, ℕ, zero, suc, ◌+◌, ◌*◌, ◌^◌, ◌<◌, ◌≤◌, Bool, true, false, not, cond, List, []}
 use Rattle.std.proofs.Common.{◌∷◌, ◌++◌, length, map, take, get_or, nat_le, nat_lt, nat_eq, Option, Some, None}
 use Rattle.std.proofs.Common.{refl, sym}
@@ -69,7 +69,7 @@ packed_low w f low few (x ∷ xs) s k =
     by_test rest false e =
         rest (record { target = s.target + 1; offset = f x; count = s.target + 2 }) (low x)
 
--- ---- pages that are there
+-- ---- pages that exist
 
 is_packed : (h : HeapState) (n : ℕ) (s t : Packing) (o : Option Packing) → o ≡ pack_if h n s → o ≡ Some t
     → t ≡ pack h.store.words s (sizes_on h n)

@@ -55,7 +55,7 @@ gate_held h t n = by_tests (nat_le (length h.threads) t) _ (is_parked_in (slice_
     by_tests false false false true = refl
     by_tests false false false false = tt
 
--- who passes the tests before a Take passes those before a GiveBack
+-- a thread that passes the tests before a Take passes those before a GiveBack
 gate_back : (h : HeapState) (t n : ℕ) → thread_gate h t (steps.Take n) ≡ Ok tt → thread_gate h t steps.GiveBack ≡ Ok tt
 unfolding thread_gate
 gate_back h t n e = by_tests (nat_le (length h.threads) t) _ (is_parked_in (slice_get h.threads t))
@@ -89,7 +89,7 @@ take_held h t n none = then_held (thread_gate h t (steps.Take n)) _ (gate_held h
     by_buffer false e (Err NoPages) = refl
     by_buffer false e (Err NoMemory) = refl
 
--- who has given it back has none
+-- a thread that has given its buffer back has none
 back_none : (h : HeapState) (t : ℕ) → OnAccepted (λ (z : HeapState × Answer). is_some (buffer_of_thread z.0 t) ≡ false)
     (outcome h (Thread t) steps.GiveBack)
 unfolding outcome give_back_outcome with_buffer
@@ -102,7 +102,7 @@ back_none h t = on_bind (thread_gate h t steps.GiveBack) _ _ (λ u f.
     by_thread (Some x) e = ap (λ (o : Option ThreadState). is_some (buffer_in o))
         (get_set_same h.threads t x (set_buffer_of None x) e)
 
--- who can't give one back has none, or passes no test
+-- a thread that can't give one back has none, or passes no test
 none_back : (h : HeapState) (t n : ℕ) (e : Refusal) → outcome h (Thread t) steps.GiveBack ≡ Err e
     → thread_gate h t (steps.Take n) ≡ Ok tt → is_some (buffer_of_thread h t) ≡ false
 unfolding outcome give_back_outcome

@@ -36,7 +36,7 @@ use Rattle.collecting.specs.Collections.{EndsCollecting, is_of_rooms, IsNotRoom}
 use Rattle.collecting.specs.Parts.{EndsPart, StopsAt}
 use Rattle.collecting.specs.Parts.{Beginning, Crossing, Scanning, Ending, Emptying}
 
--- ---- rows, line by line
+-- ---- steps, test by test
 
 on_bind : {A B : Type 0} (r : Result A Refusal) (f : A → Result B Refusal) → IsNotRoom r
     → ((x : A) → IsNotRoom (f x)) → IsNotRoom (r >>= f)

@@ -1,4 +1,4 @@
--- Objects that are made during a collection in parts.
+-- Objects that are allocated during a collection in parts.
 use Rattle.std.proofs.Common.{◌≡◌, ℕ, zero, suc, ◌+◌, ◌<◌, Bool, true, false, refl, sym, subst, arith, inl, inr}
 use Rattle.std.specs.Prelude.{Result, Ok, Err}
 use Rattle.std.proofs.lemmas.Bool.{true≢false}
@@ -91,7 +91,7 @@ pub paces_last : (k : ℕ) (all urgent : Bool) (free percent budget : ℕ) (p o 
 paces_last k all urgent free percent budget p o q h m g r is before few last ends part =
     subst (λ (b : Bool). Paces b free percent budget p h q g) is (inr (k, o, m, r, before, few, last, ends, part))
 
--- ---- what they come to
+-- ---- their results
 
 paced_goes : (k : ℕ) (all : Bool) (free percent budget : ℕ) (p q : PartsState) (h g : HeapState)
     → PacedBy k all free percent budget p h q g → Collects h g

@@ -42,7 +42,7 @@ pub portion_goes : {A : Type 0} (h g : HeapState) (r : Result A Refusal) → End
 portion_goes h g (Ok x) k = k
 portion_goes h g (Err e) k = k.0
 
--- the same refusal of another call
+-- the same error of another call
 pub portion_stops : {A : Type 0} (h g : HeapState) (r : Result A Refusal) (e : Refusal) → r ≡ Err e
     → EndsPortion h r g → Stops h e g
 portion_stops {A} h g r e is k = subst (λ (x : Result A Refusal). EndsPortion h x g) is k

@@ -242,7 +242,7 @@ pub refused_then : (t n percent : ℕ) (h m g : HeapState) (q r : Result Buffer 
     → RefillsBy (HasTriedAll t percent) t n percent h r g
 refused_then t n percent h m g q r a k = ends_after t n percent h m g r a.0 k
 
--- ---- refusals
+-- ---- errors
 
 of_rooms : (e : Refusal) → is_of_rooms e ≡ false → has_buffer e ≡ false
 of_rooms e k = (or_parts (lacks_room e) (has_buffer e) k).1
@@ -312,7 +312,7 @@ unmade_then t n percent target layout h m g e (Ok x) r is does k = absurd (cc)
 unmade_then t n percent target layout h m g e (Err x) r is does k =
     subst (λ (y : HeapState). EndsMaking t n percent target layout y r g) does.1 k
 
--- ---- the plain heap
+-- ---- the reference model
 
 -- it doesn't see these steps
 unseen : (t : ℕ) (ls : List Layout) (p : PlainHeap) (actor : Actor) (step : Step) → IsRefill t actor step

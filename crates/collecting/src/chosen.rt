@@ -1,4 +1,4 @@
-//! Which of the pages that were found a collection in parts empties.
+//! The choice of the pages that a collection in parts empties.
 
 ghost use Rattle.std.specs.Prelude.{◌≡◌, ◌≤◌, IfOk, length, map, position, take};
 ghost use Rattle.choosing.specs.Choices.{page_of};

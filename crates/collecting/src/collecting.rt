@@ -40,8 +40,8 @@ pub struct Collected {
     pub emptied: u64,
 }
 
-/// The calls of a program on the heap that it holds, besides the steps of `Mutating`: complete loads, objects with
-/// the space that they need, and collections, which worker 0 does.
+/// The calls of a program on its heap, besides the steps of `Mutating`: complete loads, objects with the space that
+/// they need, and collections, which worker 0 does.
 ///
 /// `thread`, registers (`target`, `object`), `field`, `global` and `layout` are numbers from 0. Each call is as its
 /// contract says on a `ManagedHeap`; a function that is generic over this trait depends on none of these contracts,
@@ -163,9 +163,9 @@ pub trait Holding: Mutating {
     ) -> Result<bool, Refusal>;
 
     /// Gets a thread a fresh allocation buffer of `policy.words`, and gives back the one that it has. If at most
-    /// `policy.free` frames are free and enough pages were opened since the last mark ended, half as many as frames are
-    /// free or a sixteenth of those in use, or if there is no space, the heap is collected before; and if there is no
-    /// space then, a mark runs once more, which frees the numbers of the pages that were emptied.
+    /// `policy.free` frames are free and enough pages were opened since the last mark ended, half as many as frames
+    /// are free or a sixteenth of those in use, or if there is no space, the heap is collected before; and if there
+    /// is no space then, a mark runs once more, which frees the numbers of the pages that were emptied.
     ///
     /// Fails as `take` does, or as `collect` does: with `Memory` if out of memory for a fresh page, for which
     /// nothing is collected.

@@ -20,7 +20,7 @@ use std::alloc::Global;
 /// Why a complete collection has begun.
 #[derive(Clone, Copy, Debug, PartialEq, Eq)]
 pub enum Cause {
-    /// A call asked for it.
+    /// A call requested it.
     Call,
     /// A thread was to get a fresh buffer, and at most `policy.free` frames were free.
     Policy,
@@ -32,7 +32,7 @@ pub enum Cause {
 /// `Counting` count. Each number stops at the greatest of 64 bits.
 #[derive(Clone, Copy, Debug, PartialEq, Eq)]
 pub struct Counters {
-    /// Complete collections that have begun because a call asked for them.
+    /// Complete collections that have begun because a call requested them.
     pub by_calls: u64,
     /// Complete collections that have begun for a fresh buffer, as few frames were free.
     pub by_policy: u64,

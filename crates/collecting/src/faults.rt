@@ -1,4 +1,4 @@
-//! A few kinds of errors, for a program that holds a heap alone.
+//! A few kinds of errors, for a program that alone uses its heap.
 
 ghost use Rattle.std.specs.Prelude.{◌≡◌};
 ghost use Rattle.collecting.specs.Faults.{fault_in};
@@ -26,7 +26,7 @@ pub enum CallFault {
     Full,
     /// Out of memory.
     Memory,
-    /// No more objects may be born.
+    /// The limit of births is reached.
     Births,
     /// Something else prevents it: an open barrier, a parked thread, or a collection by steps.
     Held(Refusal),

@@ -11,7 +11,7 @@ use model::Refusal;
 /// An object, by its header.
 #[derive(Clone, Copy, Debug, PartialEq, Eq)]
 pub struct Object {
-    /// Its birth number: how many were born before it. It stays when the object moves.
+    /// Its birth: how many objects were allocated before it. It stays when the object moves.
     pub birth: u64,
     /// The number of its layout.
     pub layout: u32,

@@ -6,7 +6,7 @@ ghost use Rattle.collecting.specs.Targets.{followed, grown, is_behind, larger};
 use crate::policy::Policy;
 
 /// How many frames a heap may use until it is collected: those that it used after its last collection, and `growth`
-/// percent more. So its memory follows what lives in it, and not what it may use at most.
+/// percent more. So its memory follows its live objects, and not its greatest size.
 #[derive(Clone, Copy, Debug, PartialEq, Eq)]
 pub struct Target {
     /// The frames that it may use in any case.

@@ -19,9 +19,9 @@ use Rattle.cycle.specs.Loads.{Says}
 use Rattle.cycle.specs.Drains.{drain_step, drain_within}
 use Rattle.cycle.proofs.WholeLoads.{accepted}
 
--- ---- histories that go on
+-- ---- histories that continue
 
--- the history of a book goes on from that of another
+-- the history of a recorded heap continues that of another
 pub record GoesOn (b c : BookState) : Type 0 where
   pub left : List Entry
   pub is : c.history ≡ b.history ++ left
@@ -105,7 +105,7 @@ drain_goes (suc n) b w = by_next (next_drain b.heap w) (λ c. drain_goes n c w)
 
 -- ---- beginnings
 
--- nothing was done
+-- no step was done
 pub none_begun : (whole old : BookState) (before : List Reply) (new : BookState) (all : List Reply) → GoesOn old whole
     → new ≡ old → all ≡ before → IsBeginning whole old before new all
 none_begun whole old before new all g book replies = record {
@@ -116,7 +116,7 @@ none_begun whole old before new all g book replies = record {
   told = replies ∙ sym (append-nil before);
 }
 
--- a step was done, and then a beginning of what follows it
+-- a step was done, and then a beginning of those after it
 pub more_begun : (whole old b : BookState) (actor : Actor) (step : Step) (a : Answer) (before more : List Reply)
     (new : BookState) (all : List Reply) → act_outcome old actor step ≡ Ok (b, a) → more ≡ before ++ Ok a ∷ []
     → IsBeginning whole b more new all → IsBeginning whole old before new all
@@ -129,7 +129,7 @@ more_begun whole old b actor step a before more new all is put h = record {
       ∙ append_assoc before (Ok a ∷ []) (replies_to h.steps);
 }
 
--- what would be left in all is this book
+-- replaces the recorded heap that all steps would leave with an equal one
 pub same_whole : (whole rest old : BookState) (before : List Reply) (new : BookState) (all : List Reply) → rest ≡ whole
     → IsBeginning rest old before new all → IsBeginning whole old before new all
 same_whole whole rest old before new all e h = subst (λ (b : BookState). IsBeginning b old before new all) e h
@@ -148,7 +148,7 @@ step_begun whole old b actor step reply a before more new all e says put h =
     more_begun whole old b actor step a before more new all (accepted old b _ reply a e says)
     (put ∙ ap (λ (x : Reply). before ++ x ∷ []) e) h
 
--- a step was accepted, and then a beginning of what follows it
+-- a step was accepted, and then a beginning of those after it
 pub then_begun : (old b : BookState) (actor : Actor) (step : Step) (reply : Reply) (a : Answer)
     (next : BookState → Answer → Told) (before more : List Reply) (new : BookState) (all : List Reply) → reply ≡ Ok a
     → Says old reply b (act_outcome old actor step) → more ≡ before ++ reply ∷ []
@@ -161,7 +161,7 @@ then_begun old b actor step reply a next before more new all e says put h =
     (same_whole whole (next b a).book b more new all
     (sym (step_book old b o a next (accepted old b o reply a e says))) h)
 
--- the same of a heal that was due
+-- the same for a heal that was due
 pub heal_begun : (due : Bool) (old b : BookState) (actor : Actor) (reply : Reply) (a : Answer)
     (before more : List Reply) (new : BookState) (all : List Reply) → due ≡ true → reply ≡ Ok a
     → Says old reply b (act_outcome old actor steps.Heal) → more ≡ before ++ reply ∷ []
@@ -171,35 +171,35 @@ heal_begun due old b actor reply a before more new all is e says put h =
     subst (λ (x : Bool). IsBeginning (heal_load x old actor).book old before new all) (sym is)
     (then_begun old b actor steps.Heal reply a (λ c answer. finish_load c actor) before more new all e says put h)
 
--- what is a beginning from here on is one from the start
+-- a beginning from here on is a beginning from the start
 abbrev pub LeadsOn : BookState → BookState → List Reply → BookState → List Reply → Type 0
 LeadsOn whole old before b more =
     (new : BookState) (all : List Reply) → IsBeginning whole b more new all → IsBeginning whole old before new all
 
--- the same behind one more step
+-- the same after one more step
 pub leads_more : (whole old : BookState) (before : List Reply) (b c : BookState) (actor : Actor) (step : Step)
     (reply : Reply) (a : Answer) (rs more : List Reply) → LeadsOn whole old before b rs → reply ≡ Ok a
     → Says b reply c (act_outcome b actor step) → more ≡ rs ++ reply ∷ [] → LeadsOn whole old before c more
 leads_more whole old before b c actor step reply a rs more leads e says put new all h =
     leads new all (step_begun whole b c actor step reply a rs more new all e says put h)
 
--- what a call that may lack memory tells where it does
+-- a consequence of what a result has if it is an error
 pub on_err : {X E : Type 0} (r : Result X E) (P Q : Type 0) → OnErr r P → (P → Q) → OnErr r Q
 on_err (Ok x) P Q h k = search rules
 on_err (Err e) P Q h k = k h
 
--- what holds anyhow
+-- what holds in any case holds if the result is an error
 pub at_err : {X E : Type 0} (r : Result X E) (P : Type 0) → P → OnErr r P
 at_err (Ok x) P p = search rules
 at_err (Err e) P p = p
 
--- a call that did nothing where it lacked memory
+-- a call that did nothing if out of memory
 pub none_done : {X E : Type 0} (r : Result X E) (whole old : BookState) (before : List Reply) (new : BookState)
     (all : List Reply) → GoesOn old whole → OnErr r (new ≡ old) → OnErr r (all ≡ before)
     → OnErr r (IsBeginning whole old before new all)
 none_done (Ok x) whole old before new all g book replies = search rules
 none_done (Err e) whole old before new all g book replies = none_begun whole old before new all g book replies
 
--- what all steps of a load would leave, told from those that are left of it
+-- the recorded heap that all steps of a load would leave is the one that the remaining steps would leave
 pub same_goes : (b rest whole : BookState) → rest ≡ whole → GoesOn b rest → GoesOn b whole
 same_goes b rest whole e g = subst (GoesOn b) e g

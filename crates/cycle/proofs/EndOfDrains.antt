@@ -1,4 +1,4 @@
--- A drain ends within the steps that its history has space for, and one more.
+-- A drain ends within one step more than its history has space for.
 use Rattle.std.proofs.Common.{◌≡◌, ℕ, zero, suc, ◌+◌, ◌<◌, ◌≤◌, Bool, true, false, [], ◌∷◌, length, Option}
 use Rattle.std.proofs.Common.{Some, None, refl, ap, sym, subst, ◌∙◌, arith, length-append}
 use Rattle.std.specs.Prelude.{Result, Ok, Err, position, is_some, if◌then◌else◌, ◌*◌, ◌&&◌, ◌||◌, not, nat_lt}
@@ -132,9 +132,9 @@ drained_step h w step e = by_scan (is_some (scan_of h w)) (position (λ (g : Glo
     by_scan true o f = subst IsScanStep (same_step steps.ScanField step f) Field
     by_scan false o f = by_global o f
 
--- ---- books
+-- ---- recorded heaps
 
--- a step was entered in a history that had room for it, of a heap with the same limit
+-- a step was entered in a history that had space for it, of a heap with the same limit
 record HasEntered (b c : BookState) : Type 0 where
   limit : c.heap.config.history ≡ b.heap.config.history
   longer : length c.history ≡ length b.history + 1
@@ -175,7 +175,7 @@ step_same b w None f g same = refl
 step_same b w (Some step) f g same =
     stepped_same b (act_outcome b (Worker w) step) (λ c a. f c) (λ c a. g c) (λ c a e. same c step a refl e)
 
--- where so many steps are more than the history has room for, more of them change nothing
+-- if n steps are more than the history has space for, allowing more changes nothing
 enough : (n m k : ℕ) (b : BookState) (w : ℕ) → m ≡ n + k → length b.history ≤ b.heap.config.history
     → b.heap.config.history < n + length b.history → drain_within m b w ≡ drain_within n b w
 enough zero m k b w is within more = absurd (omega (arith, within, more))

@@ -1,4 +1,4 @@
--- Pages that rise are named once each.
+-- Pages of a rising list are different.
 use Rattle.std.proofs.Common.{◌≡◌, ℕ, ◌≤◌, ◌||◌, true, false, List, [], ◌∷◌, length, nat_lt, refl, sym, ap}
 use Rattle.std.proofs.Common.{arith}
 use Rattle.std.specs.Prelude.{◌==◌}
@@ -8,7 +8,7 @@ use Rattle.model.specs.States.{HeapState}
 use Rattle.model.specs.Protections.{has_twice, no_page_in, are_bad_pages}
 use Rattle.cycle.specs.Rising.{rises_above}
 
--- what rises above a number hasn't one that is no greater
+-- a number isn't in a list that rises above it
 not_among : (n m : ℕ) (ms : List ℕ) → n ≤ m → rises_above m ms ≡ true → list_any (λ k. k == n) ms ≡ false
 not_among n m [] low rises = refl
 not_among n m (k ∷ ks) low rises =

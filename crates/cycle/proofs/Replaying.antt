@@ -81,7 +81,7 @@ entry_added b actor step g answer k store heap more kept =
       )) kept.tallies;
     }
 
--- a new book
+-- a new recorded heap
 pub new_book : (c : Config) → Holds (first_heap c) (before_entries c).now (before_entries c).at_mark
     → IsStore (first_heap c).store → IsHeap (first_heap c) → IsBook (first_book c)
 unfolding replayed first_book first_heap
@@ -97,7 +97,7 @@ new_book c k store heap =
           first_tallies c;
     }
 
--- what the law promises
+-- the law's promises
 pub promises : (b : BookState) → IsBook b → KeepsPromises b
 promises b k = record {
   stands = stands (world_of b.heap) (births_of (replayed b).now) (births_of (replayed b).at_mark) k.holds.invariant;
@@ -119,7 +119,7 @@ accepted_stands old new actor step a is s d holds find move count p p0 k = recor
   tallies = count old actor step new a is;
 }
 
--- a call that did what its outcome says
+-- a call that did what its outcome requires
 pub keeps_standing : (old new : HeapState) (actor : Actor) (step : Step) (result : Result Answer Refusal)
     → DoesStep old step result new (outcome old actor step) → IsStore old.store → IsHeap old → StepsHold → MarksFind
     → PhasesMove → StepsCount → KeepsStanding old actor step result new
@@ -128,7 +128,7 @@ keeps_standing old new actor step (Ok a) does s d holds find move count p p0 k =
     accepted_stands old new actor step a is s d holds find move count p p0 k
 keeps_standing old new actor step (Err e) does s d holds find move count p p0 k = tt
 
--- the parts of a new book
+-- the parts of a new recorded heap
 pub made : (c : Config) (h : HeapState) (es : List Entry) → h ≡ first_heap c → es ≡ [] → IsStore h.store → IsHeap h
     → FirstHolds → IsBook (record { heap = h; history = es })
 unfolding first_book
@@ -136,7 +136,7 @@ made c h es e f store heap law = subst (λ (g : HeapState). IsBook (record { hea
     (subst (λ (xs : List Entry). IsBook (record { heap = first_heap c; history = xs })) (sym f)
     (new_book c (law c) (subst (λ (g : HeapState). IsStore g.store) e store) (subst IsHeap e heap)))
 
--- the parts of a book with one more entry
+-- the parts of a recorded heap with one more entry
 pub entered_book : (b : BookState) (actor : Actor) (step : Step) (g : HeapState) (answer : Answer) (es : List Entry)
     → IsBook b → IsStore g.store → IsHeap g → is_full b ≡ false
     → (let p = (replayed b).now in let p0 = (replayed b).at_mark in Holds b.heap p p0
@@ -147,7 +147,7 @@ entered_book b actor step g answer es k store heap more s e =
     subst (λ (xs : List Entry). IsBook (record { heap = g; history = xs })) (sym e)
     (entry_added b actor step g answer k store heap more (s k.holds))
 
--- the parts of a book whose step was refused
+-- the parts of a recorded heap whose step was rejected
 pub left_book : (b : BookState) (step : Step) (g : HeapState) (e : Refusal) (o : Outcome) (es : List Entry) → IsBook b
     → DoesStep b.heap step (Err e) g o → es ≡ b.history → IsBook (record { heap = g; history = es })
 left_book b step g e o es k does same =

@@ -9,14 +9,14 @@ use Rattle.model.specs.declared.steps.Step.TheVariants as steps
 use Rattle.model.specs.Refusing.{Outcome, DoesStep}
 use Rattle.model.specs.States.{HeapState}
 
--- an accepted call did what the outcome says
+-- an accepted call did what its outcome requires
 pub step_accepted : (old new : HeapState) (step : Step) (answer : Answer) (o : Outcome)
     → DoesStep old step (Ok answer) new o → o ≡ Ok (new, answer)
 step_accepted old new (steps.Take words) answer o does = does
 step_accepted old new (steps.Protect pages) answer o does = does
 step_accepted old new _ answer o does = does
 
--- a refused one lacked memory, or is refused by the outcome, and changed nothing
+-- a rejected call was out of memory or is rejected by the outcome, and changed nothing
 pub step_refused : (old new : HeapState) (step : Step) (e : Refusal) (o : Outcome) → DoesStep old step (Err e) new o
     → ((e ≡ refusals.Memory) ⊎ (o ≡ Err e)) × (new ≡ old)
 step_refused old new (steps.Take words) refusals.Memory o does = (inl refl, does)

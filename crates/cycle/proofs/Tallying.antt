@@ -34,11 +34,11 @@ count_more p es e =
     let f : Entry → ℕ = λ x. cond (p x) 1 0 in
     omega (arith, sum_by-append f es (e ∷ []), sum_by-cons f e [])
 
--- below the greatest number, one more is one more
+-- below the greatest number, `one_more` adds 1
 one_more_is : (n : ℕ) → n < most_counted → one_more n ≡ n + 1
 one_more_is n low = grind arith
 
--- The tally with one entry more, which raises this number, if any, of the tally of t.
+-- the counters with one entry more, which increments this counter, if any, of thread t
 tally_more : (t : ℕ) (es : List Entry) (e : Entry) (c : Option Counter)
     → ((k : Counter) → raises t k e ≡ is_raised c k) → length es < most_counted
     → counted_if c (tally_of t es) ≡ tally_of t (es ++ e ∷ [])
@@ -117,13 +117,13 @@ tallies_more h g actor step answer es are few counts t y is = by_actor actor cou
     entry : Actor → Entry
     entry actor = record { actor = actor; step = step; answer = answer }
 
-    -- the tally of another thread
+    -- the counters of another thread
     other : (actor : Actor) → is_thread t actor ≡ false → tally_of_thread h t ≡ Some y
         → y ≡ tally_of t (es ++ entry actor ∷ [])
     other actor apart there = are t y there ∙ tally_more t es (entry actor) None
         (λ k. ap (λ b. b && is_raised (counter_of step answer) k) apart) few
 
-    -- its own
+    -- the thread's own
     own : (actor : Actor) → is_thread t actor ≡ true
         → (o : Option Tally) → tally_of_thread h t ≡ o → option_map (counted_if (counter_of step answer)) o ≡ Some y
         → y ≡ tally_of t (es ++ entry actor ∷ [])

@@ -1,4 +1,4 @@
--- No load needs more than three traps: after one that marks none is due.
+-- No load needs more than three traps: after one that marks, none is due.
 use Rattle.std.proofs.Common.{◌≡◌, ◌⊎◌, inl, inr, ℕ, suc, ◌+◌, Bool, true, false, not, Option, Some, None, List, ◌∷◌}
 use Rattle.std.proofs.Common.{arith}
 use Rattle.std.proofs.Common.{refl, ap, sym, subst, ◌∙◌}
@@ -76,15 +76,15 @@ unfolding copied_for
 for_threads h None = refl
 for_threads h (Some w) = first_threads h w.0
 
--- the heap after the word of a barrier is marked where its object is now
+-- the heap after the reference in a barrier is marked, at its object's current place
 abbrev marked_now : HeapState → ℕ → Barrier → HeapState
 marked_now h t b = with_barrier (with_mark h b.now) t (set_now_of (marked_word h b.now) b) counters.Nmt
 
--- the heap behind an NMT trap
+-- the heap after an NMT trap
 abbrev marked_heap : HeapState → ℕ → Barrier → HeapState
 marked_heap h t b = marked_now (copied_for h b.now) t b
 
--- no NMT trap is due for a word that is marked
+-- no NMT trap is due for a reference that is marked
 never_due : (h : HeapState) (t : ℕ) (b : Barrier) → nmt_trap_due (marked_now h t b) t (marked_word h b.now) ≡ false
 unfolding with_barrier with_mark marked_word
 never_due h t b = by_word b.now
@@ -100,7 +100,7 @@ never_due h t b = by_word b.now
         (marked_now h t b).threads t)))
         h.nmt
 
--- a trap where no GC trap is due is an NMT trap, or clear
+-- a trap for which no GC trap is due is an NMT trap or clear
 unguarded : (h : HeapState) (t : ℕ) (b : Barrier) (y : HeapState × Answer) → barrier_of_thread h t ≡ Some b
     → gc_trap_due h t b.now ≡ false → trap_outcome h t ≡ Ok y → nmt_trap h t b ≡ Ok y
 unfolding trap_outcome
@@ -117,7 +117,7 @@ unguarded h t b y first free e = by_barrier (barrier_of_thread h t) first e
         by_due true f z = absurd cc
         by_due false f z = z
 
--- an NMT trap where none is due is clear
+-- an NMT trap that isn't due is clear
 clear_by : (h : HeapState) (t : ℕ) (b : Barrier) (y : HeapState × Answer) → nmt_trap_due h t b.now ≡ false
     → nmt_trap h t b ≡ Ok y → y.1 ≡ answers.Clear
 clear_by h t b y free e = by_due (nmt_trap_due h t b.now) free e
@@ -128,7 +128,7 @@ clear_by h t b y free e = by_due (nmt_trap_due h t b.now) free e
     by_due true k z = absurd cc
     by_due false k z = sym (ap (λ (x : HeapState × Answer). x.1) (same_outcome (h, answers.Clear) y z))
 
--- behind an NMT trap, a trap is clear
+-- after an NMT trap, a trap is clear
 clear_behind : (h : HeapState) (p p0 : PlainHeap) (t : ℕ) (b : Barrier) → Holds h p p0 → barrier_of_thread h t ≡ Some b
     → gc_trap_due h t b.now ≡ false → nmt_trap_due h t b.now ≡ true → (y : HeapState × Answer)
     → trap_outcome (marked_heap h t b) t ≡ Ok y → y.1 ≡ answers.Clear
@@ -148,7 +148,7 @@ ClearNext actor x = (x.1 ≡ answers.Clear)
     ⊎ ((x.1 ≡ answers.Marked)
     × ((y : HeapState × Answer) → outcome x.0 actor steps.Trap ≡ Ok y → y.1 ≡ answers.Clear))
 
--- or it forwards, and the next one is so
+-- or it corrects the reference, and the next one is clear or marks as above
 abbrev pub ClearSoon : Actor → HeapState × Answer → Type 0
 ClearSoon actor x = ClearNext actor x
     ⊎ ((x.1 ≡ answers.Moved)
@@ -235,12 +235,12 @@ module _ (h : HeapState) (p p0 : PlainHeap) (s : IsStore h.store) (d : IsHeap h)
       by_barrier None f z = absurd cc
       by_barrier (Some b) f z = by_gc b f (gc_trap_due h t b.now) refl z
 
--- the same of books
+-- the same for recorded heaps
 
 same_acted : (x y : BookState × Answer) → ◌≡◌ {A = BookOutcome} (Ok x) (Ok y) → x ≡ y
 same_acted x y e = cc
 
--- what a step of a book did, its heap did
+-- a step of a recorded heap did to its heap what the heap's step does
 acted_heap : (b : BookState) (actor : Actor) (y : BookState × Answer) → act_outcome b actor steps.Trap ≡ Ok y
     → outcome b.heap actor steps.Trap ≡ Ok (y.0.heap, y.1)
 unfolding act_outcome

@@ -33,9 +33,9 @@ verdict_err : (b : BookState) (o : BookOutcome) (e : Refusal) (next : BookState 
 unfolding step_then
 verdict_err b o e next is = rw is refl
 
--- ---- the steps that are left
+-- ---- the remaining steps
 
--- what is left of a drain, behind replies, leads to all of it and to its end
+-- the remaining steps of a drain, after replies, lead to all of it and to its end
 pub record IsLeft (rs : List Reply) (k : ℕ) (b : BookState) (w : ℕ) (all : Told) (end : Result Unit Refusal) : Type 0
   where
     pub steps : behind rs (drain_within k b w) ≡ all
@@ -46,7 +46,7 @@ pub record IsDone (rs : List Reply) (b : BookState) (all : Told) (end now : Resu
   pub steps : all ≡ tell b rs
   pub end_is : now ≡ end
 
--- nothing was done
+-- no step was done
 pub left_all : (rs : List Reply) (k : ℕ) (b : BookState) (w : ℕ)
     → IsLeft rs k b w (behind rs (drain_within k b w)) (verdict (drain_within k b w).replies)
 left_all rs k b w = record { steps = refl; end_is = refl }
@@ -58,7 +58,7 @@ no_steps rs k b w all end left e = record {
   end_is = sym (ap (λ (t : Told). verdict t.replies) e) ∙ left.end_is;
 }
 
--- no step may be done any more
+-- no more steps are allowed
 pub left_none : (rs : List Reply) (k : ℕ) (b : BookState) (w : ℕ) (all : Told) (end : Result Unit Refusal)
     → IsLeft rs k b w all end → k ≡ 0 → IsDone rs b all end (Ok tt)
 left_none rs k b w all end left e = no_steps rs k b w all end left (drained_last k b w e)
@@ -67,7 +67,7 @@ module _
     (rs : List Reply) (k n : ℕ) (b : BookState) (w : ℕ) (all : Told) (end : Result Unit Refusal)
     (left : IsLeft rs k b w all end) (count : k ≡ suc n)
   where
-    -- nothing is left to be scanned
+    -- no step is left
     pub left_end : next_drain b.heap w ≡ None → IsDone rs b all end (Ok tt)
     left_end next = no_steps rs k b w all end left (drained_next k n b w None count next)
 
@@ -86,7 +86,7 @@ module _
               ∙ sym (ap (λ (t : Told). verdict t.replies) here) ∙ left.end_is;
         }
 
-    -- a step is refused
+    -- a step is rejected
     pub left_err : (c : BookState) (step : Step) (reply : Reply) (e : Refusal) (more : List Reply)
         → next_drain b.heap w ≡ Some step → reply ≡ Err e → Says b reply c (act_outcome b (Worker w) step)
         → more ≡ rs ++ reply ∷ [] → IsDone more c all end (Err e)

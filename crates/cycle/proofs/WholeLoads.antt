@@ -24,7 +24,7 @@ behind_more : (rs more : List Reply) (a : Answer) (t : Told) → more ≡ rs ++ 
 behind_more rs more a t h = ap (λ (x : List Reply). tell t.book x)
     (sym (append_assoc rs (Ok a ∷ []) t.replies) ∙ ap (λ (x : List Reply). x ++ t.replies) (sym h))
 
--- an accepted step leads on to what follows it
+-- an accepted step leads to what follows it
 pub step_ok : (b c : BookState) (o : BookOutcome) (reply : Reply) (a : Answer) (next : BookState → Answer → Told)
     (rs more : List Reply) (new : Told) → reply ≡ Ok a → Says b reply c o → more ≡ rs ++ reply ∷ []
     → behind more (next c a) ≡ new → behind rs (step_then b o next) ≡ new
@@ -33,7 +33,7 @@ step_ok b c o reply a next rs more new is says put h =
     let more_is : more ≡ rs ++ Ok a ∷ [] = put ∙ ap (λ (x : Reply). rs ++ x ∷ []) is in
     rw (accepted b c o reply a is says) (behind_more rs more a (next c a) more_is ∙ h)
 
--- a refused step is the end
+-- a rejected step is the end
 pub step_err : (b c : BookState) (o : BookOutcome) (reply : Reply) (e : Refusal) (next : BookState → Answer → Told)
     (rs more : List Reply) → reply ≡ Err e → Says b reply c o → more ≡ rs ++ reply ∷ []
     → behind rs (step_then b o next) ≡ tell c more
@@ -67,7 +67,7 @@ healed_due due b actor rs t e h = subst (λ (x : Bool). behind rs (heal_load x b
 
 -- traps
 
--- what follows a trap of this answer, where n are left
+-- what follows a trap with this answer, if n more are allowed
 abbrev pub after_trap : ℕ → Bool → Actor → BookState → Answer → Told
 after_trap n due actor c answer = if is_clear answer then heal_load due c actor else trap_load n true c actor
 
@@ -107,7 +107,7 @@ pub trapped_last : (k : ℕ) (due : Bool) (b : BookState) (actor : Actor) → k 
 unfolding trap_load
 trapped_last k due b actor e = rw e refl
 
--- what a call that may lack memory tells leads on
+-- a consequence of what a result has if it isn't an error
 pub on_ok : {X E : Type 0} (r : Result X E) (P Q : Type 0) → OnOk r P → (P → Q) → OnOk r Q
 on_ok (Ok x) P Q h k = k h
 on_ok (Err e) P Q h k = search rules

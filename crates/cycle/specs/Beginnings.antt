@@ -15,9 +15,9 @@ abbrev pub replies_to : List Entry → List Reply
 replies_to [] = []
 replies_to (e ∷ es) = Ok e.answer ∷ replies_to es
 
--- A beginning of steps, all of which would leave the recorded heap `whole`. Those that were done are accepted one
--- after another, and lead from the old one to the new one. They are the first ones of all: the history of `whole`
--- continues that of the new one. And their replies are appended to those before.
+-- A beginning of steps, all of which would leave the recorded heap `whole`. The steps done were accepted one after
+-- another, and lead from the old recorded heap to the new one. They are the first of all: the history of `whole`
+-- continues that of the new one. Their replies are appended to those before.
 pub record IsBeginning (whole old : BookState) (before : List Reply) (new : BookState) (all : List Reply) : Type 0 where
   pub steps : List Entry
   pub left : List Entry

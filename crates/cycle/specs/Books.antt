@@ -21,7 +21,7 @@ pub record BookState : Type 0 where
   pub heap : HeapState
   pub history : List Entry
 
--- the history has as many entries as it may have
+-- the history has as many entries as its limit allows
 unfoldable pub is_full : BookState → Bool
 is_full b = nat_le b.heap.config.history (length b.history)
 
@@ -43,18 +43,18 @@ Reply = Result Answer Refusal
 abbrev pub BookOutcome : Type 0
 BookOutcome = Result (BookState × Answer) Refusal
 
--- the recorded heap after the heap's outcome: an accepted step is entered with its answer
+-- the recorded heap after the heap's outcome: an accepted step enters the history with its answer
 abbrev pub enter_accepted : BookState → Actor → Step → Outcome → BookOutcome
 enter_accepted b actor step (Err e) = Err e
 enter_accepted b actor step (Ok x) =
     Ok (record { heap = x.0; history = b.history ++ record { actor = actor; step = step; answer = x.1 } ∷ [] }, x.1)
 
--- a full history rejects the step; else the heap's outcome, an accepted step entering the history with its answer
+-- a full history rejects the step; else the heap decides, and an accepted step enters the history with its answer
 unfoldable pub act_outcome : BookState → Actor → Step → BookOutcome
 act_outcome b actor step =
     if is_full b then Err refusals.HistoryFull else enter_accepted b actor step (outcome b.heap actor step)
 
--- a call has this outcome, or, if the history is not full, memory ran out; a rejected one changed nothing
+-- a call has this outcome, or is out of memory, if the history isn't full; a rejected one changed nothing
 abbrev pub Acts : BookState → Reply → BookState → BookOutcome → Type 0
 Acts old (Ok answer) new outcome = outcome ≡ Ok (new, answer)
 Acts old (Err e) new outcome = (((is_full old ≡ false) × (e ≡ refusals.Memory)) ⊎ (outcome ≡ Err e)) × (new ≡ old)

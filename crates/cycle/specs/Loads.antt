@@ -25,7 +25,7 @@ pub record Told : Type 0 where
 abbrev pub tell : BookState → List Reply → Told
 tell b replies = record { book = b; replies = replies }
 
--- a step of this outcome, and what follows if it is accepted; an error is the end
+-- a step of this outcome, and what follows if it is accepted; nothing follows an error
 unfoldable pub step_then : BookState → BookOutcome → (BookState → Answer → Told) → Told
 step_then b (Ok x) next = tell (next x.0 x.1).book (Ok x.1 ∷ (next x.0 x.1).replies)
 step_then b (Err e) next = tell b (Err e ∷ [])
@@ -48,13 +48,13 @@ abbrev pub is_clear : Answer → Bool
 is_clear answers.Clear = true
 is_clear other = false
 
--- Trap until the answer is Clear, but at most n times: then heal, if one was due, and finish.
+-- traps until the answer is Clear, at most n times; then heals the place, if a trap was due, and finishes
 unfoldable pub trap_load : ℕ → Bool → BookState → Actor → Told
 trap_load zero due b actor = heal_load due b actor
 trap_load (suc n) due b actor = step_then b (act_outcome b actor steps.Trap) (λ c answer.
     if is_clear answer then heal_load due c actor else trap_load n true c actor)
 
--- the word of an open load was corrected, and its place isn't healed yet
+-- the reference of an open load was corrected, and its place isn't healed yet
 abbrev pub waits_for_heal : Option Barrier → Bool
 waits_for_heal None = false
 waits_for_heal (Some barrier) = not (may_finish barrier)
@@ -65,11 +65,11 @@ heal_is_due h (Thread t) = waits_for_heal (barrier_of_thread h t)
 heal_is_due h (Worker w) = false
 
 -- The end of a load that has begun, also of one that stopped after a trap that was due. Three traps are enough: after
--- one that forwards and one that marks none is due any more.
+-- one that corrects the reference and one that marks it, none is due.
 abbrev pub end_load : BookState → Actor → Told
 end_load b actor = trap_load 3 (heal_is_due b.heap actor) b actor
 
--- a complete load, from the step that begins it, after which no heal is due
+-- a complete load: the step that begins it, after which no heal is due, and its end
 abbrev pub whole_load : BookState → Actor → Step → Told
 whole_load b actor load = step_then b (act_outcome b actor load) (λ c answer. trap_load 3 false c actor)
 
@@ -100,7 +100,8 @@ abbrev pub IsVerdict : Result Unit Refusal → List Reply → Type 0
 IsVerdict (Ok u) replies = (answer : Answer) × EndsIn replies (Ok answer)
 IsVerdict (Err e) replies = EndsIn replies (Err e)
 
--- a load did the steps of a complete one, and its result is that of the last; or memory ran out after a beginning
+-- a load did the steps of a complete one, and its result is that of the last; or it is out of memory after a
+-- beginning
 abbrev pub LoadsWhole : Result Unit Refusal → BookState → List Reply → BookState → List Reply → Told → Type 0
 LoadsWhole (Err refusals.Memory) old before new all whole = IsBeginning whole.book old before new all
 LoadsWhole result old before new all whole = Leaves whole before new all × IsVerdict result all

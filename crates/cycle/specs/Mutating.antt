@@ -11,7 +11,7 @@ use Rattle.model.specs.States.{HeapState}
 use Rattle.refinement.specs.Standing.{KeepsStanding}
 
 -- a call for a thread's step, whose value represents the answer, has the step's outcome; for Take, which may open a
--- page, memory for that may have run out, and then it changed nothing
+-- page, it may be out of memory for that, and then it changed nothing
 abbrev pub DoesThread : {A : Type 0} → (A → Answer) → HeapState → ℕ → Step → Result A Refusal → HeapState → Type 0
 DoesThread answer old t step result new =
     DoesStep old step (said answer result) new (outcome old (Thread t) step)

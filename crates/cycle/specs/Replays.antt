@@ -64,17 +64,18 @@ pub record IsBook (b : BookState) : Type 0 where
   pub marks : LastFinds b
   pub tallies : TalliesAre b.heap b.history
 
--- its promises: the heap represents the reference model of its history; no register that may be used names a page
--- without memory; and if its last step has ended a mark, every reachable object is live, and each live object was
--- reachable when that mark began, or is born since; and the barrier counters of each thread are those of its entries
+-- its promises: the heap represents the reference model of its history; no register that may be used refers to a page
+-- without memory; if its last step has ended a mark, every reachable object is live, and each live object was
+-- reachable when that mark began, or was allocated since; and the barrier counters of each thread are those of its
+-- entries
 pub record KeepsPromises (b : BookState) : Type 0 where
   pub stands : StandsForPlain (world_of b.heap) (births_of (replayed b).now)
   pub usable : UsableHasMemory (world_of b.heap)
   pub marks : LastFinds b
   pub tallies : TalliesAre b.heap b.history
 
--- the promises of a step with this reply: those of its recorded heap, and if it is accepted, that objects that
--- weren't copied by the end of a mark are unreachable, and that it has changed the phase as it may
+-- the promises of a step with this reply: those of its recorded heap; and if it is accepted, objects that weren't
+-- copied by the end of a mark are unreachable, and the phase changed only as the cycle allows
 pub record StepPromises (old : BookState) (step : Step) (reply : Reply) (new : BookState) : Type 0 where
   pub book : KeepsPromises new
   pub leaves : IfOk reply (λ answer. Leaves old.heap (replayed old).now step)

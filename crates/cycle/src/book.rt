@@ -40,10 +40,11 @@ impl Model for Book {
 
 impl Book {
     /// Proves the invariants of a recorded heap and of its heap, that its history is within the configuration's
-    /// limit, and its promises to threads: registers, loads and globals name what the reference model has in their
-    /// place; each reachable object has exactly one current copy, on a page with memory; and no register that may be
-    /// used names a page without memory. If its last step has ended a mark, every reachable object is live, and each
-    /// live object was reachable when that mark began, or is born since. It changes nothing and never fails.
+    /// limit, and its promises to threads: registers, loads and globals refer to what the reference model has in
+    /// their place; each reachable object has exactly one current copy, on a page with memory; and no register that
+    /// may be used refers to a page without memory. If its last step has ended a mark, every reachable object is
+    /// live, and each live object was reachable when that mark began, or was allocated since. It changes nothing and
+    /// can't fail.
     pub fn law(&self)
         ensures book { IsBook self.now }
         ensures promises { KeepsPromises self.now }
@@ -97,9 +98,9 @@ impl Book {
     /// the entry, or in the step (`Take`, `Protect`). A step that is rejected for any reason leaves heap and history
     /// as they were.
     ///
-    /// It promises what `law` does. So if it has ended a mark, every reachable object is live, and each live object
-    /// was reachable when that mark began, or is born since; and objects that weren't copied from a protected page by
-    /// then are unreachable. The phase changes as in the collector's cycle, and in no other way.
+    /// Its promises are those of `law`. So if it has ended a mark, every reachable object is live, and each live
+    /// object was reachable when that mark began, or was allocated since; and objects that weren't copied from a
+    /// protected page by then are unreachable. The phase changes as in the collector's cycle, and in no other way.
     #[inline(always)]
     pub fn act(&mut self, actor: Actor, step: Step) -> Reply
         ensures acts { Acts self.old result self.new (act_outcome self.old actor step) }
@@ -132,8 +133,9 @@ impl Book {
     }
 
     /// Does what `act` does for a worker's `CopyPage`, by halves on threads: the entries that go to one target are
-    /// cut in two, and so again, to a depth (above 4 counts as 4), and each piece is copied on a thread of its own,
-    /// which first calls the gate. It waits for the threads. If one can't be started, its piece is copied afterwards.
+    /// halved, and each half again, to a depth (above 4 counts as 4), and each piece is copied on a thread of its
+    /// own, which first calls the gate. It waits for the threads. If one can't be started, its piece is copied
+    /// afterwards.
     pub fn copy_page_by<R: Threads + Sync, G: PieceGate + Sync>(
         &mut self,
         rt: &R,

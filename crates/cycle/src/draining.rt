@@ -1,4 +1,4 @@
-//! Mark drains: the scanning steps of a worker, until nothing is left to be scanned or a step is rejected.
+//! Mark drains: the scanning steps of a worker, until none is left or one is rejected.
 
 ghost use Rattle.std.specs.Prelude.{◌≡◌, ◌<◌, ◌^◌, position, is_some, IfOk, IfSome, OnErr, OnOk};
 ghost use Rattle.model.specs.declared.records.Global.{Global};
@@ -13,13 +13,13 @@ use marker::next_todo;
 use model::{Actor, Refusal, Reply, Step};
 use std::alloc::AllocError;
 
-/// A drain of a recorded heap ends within as many steps as the history may have entries, and one more. It does
-/// nothing: its contract is the law.
+/// A drain of a recorded heap ends within one step more than the history's limit of entries. It does nothing: its
+/// contract is the law.
 pub fn drains_end()
     ensures { DrainsEnd }
 {}
 
-/// Returns whether a worker has an object.
+/// Returns whether a worker is scanning an object.
 fn has_scan(heap: &Heap, worker: u32) -> bool
     ensures { result ≡ is_some (scan_of heap.now worker) }
 {
@@ -38,9 +38,9 @@ fn next_global(heap: &Heap) -> Option<usize>
     heap.first_todo_global()
 }
 
-/// Returns the next step by which a worker drains the mark: it scans the object that it has; else it marks the first
-/// grey global; else it picks the first object that no worker has. `None` if there is nothing of these. Workers count
-/// from 0.
+/// Returns the next step by which a worker drains the mark: it scans the object that it has picked; else it marks the
+/// first grey global; else it picks the first grey object that no worker has. `None` if there is none of these.
+/// Workers count from 0.
 #[tactic(auto, unfolding(model::specs::Scans::next_drain))]
 pub fn next_drain(heap: &Heap, worker: u32) -> Option<Step>
     ensures { result ≡ next_drain heap.now worker }
@@ -71,7 +71,7 @@ pub fn verdict(replies: &[Reply]) -> Result<(), Refusal>
 }
 
 impl Book {
-    /// Does at most `most` steps of a drain. Returns `AllocError` if out of memory: a beginning of them is done then.
+    /// Does at most `most` steps of a drain. Fails only if out of memory: a beginning of these steps is done then.
     fn drain_within(
         &mut self,
         most: u64,
@@ -97,13 +97,13 @@ impl Book {
         Ok(Ok(()))
     }
 
-    /// Does a complete drain, as one call: the worker scans the object that it has to its end, marks the grey
+    /// Does a complete drain, as one call: the worker scans the object that it has picked to its end, marks the grey
     /// globals, from the first on, and then picks and scans objects, the one with the least address first, until none
-    /// is left that no worker has. Returns `Ok` if it came to that end; else the first error, and `Memory` if out of
-    /// memory. The steps' replies are appended to `replies`: all of them are accepted, or all but the last.
+    /// is left that no worker has. Returns `Ok` if it came to that end, else the first error, which is `Memory` if
+    /// out of memory. The steps' replies are appended to `replies`: all of them are accepted, or all but the last.
     ///
     /// After `Memory` a beginning of these steps is done, each of them accepted, and their replies are appended; the
-    /// call may be made again.
+    /// call may be repeated.
     pub fn drain(&mut self, worker: u32, replies: &mut Vec<Reply>) -> Result<(), Refusal>
         ensures { DrainsWhole result self.old replies.old.items self.new replies.new.items (drain self.old worker) }
     {

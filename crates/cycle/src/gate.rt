@@ -45,8 +45,8 @@ fn no_thread(heap: &Heap, thread: u32) -> bool
     thread as usize >= heap.threads().len()
 }
 
-/// Returns whether a number in a step names nothing. The step is a thread's or a worker's, by a number from 0; for a
-/// worker's that doesn't matter.
+/// Returns whether a number in a step is out of range. The step is a thread's or a worker's, by a number from 0,
+/// which doesn't matter for a worker's.
 #[inline(always)]
 fn has_bad_index(heap: &Heap, thread: u32, step: &Step) -> bool
     ensures { result ≡ has_bad_index heap.now step.now }
@@ -88,7 +88,7 @@ fn has_bad_index(heap: &Heap, thread: u32, step: &Step) -> bool
     }
 }
 
-/// Returns whether such a step is a worker's; threads do all others.
+/// Returns whether a step is a worker's; all others are threads'.
 #[inline(always)]
 fn is_for_workers(step: &Step) -> bool
     ensures { result ≡ is_for_workers step.now }
@@ -108,7 +108,7 @@ fn is_for_workers(step: &Step) -> bool
     )
 }
 
-/// Returns whether a parked thread may do such a step.
+/// Returns whether a parked thread may do a step.
 #[inline(always)]
 fn is_for_parked(step: &Step) -> bool
     ensures { result ≡ is_for_parked step.now }
@@ -116,7 +116,7 @@ fn is_for_parked(step: &Step) -> bool
     matches!(step, Step::Unpark)
 }
 
-/// Returns whether a thread with an open barrier may do such a step.
+/// Returns whether a thread with an open barrier may do a step.
 #[inline(always)]
 fn is_for_loading(step: &Step) -> bool
     ensures { result ≡ is_for_loading step.now }
@@ -143,9 +143,9 @@ fn is_held(heap: &Heap, thread: u32) -> bool
     }
 }
 
-/// Makes the tests of every step of a thread, in their order: no such thread, or no step of a thread; a number that
-/// names nothing; a parked thread, unless it is to run again; an open barrier, unless the step is one of its own. Its
-/// Ok is the precondition of the call that does the step.
+/// Makes the leading tests of a thread's step, in their order: no such thread, or no step of a thread (`NoActor`); a
+/// number out of range (`BadIndex`); a parked thread, unless the step is `Unpark` (`Parked`); an open barrier, unless
+/// the step is `Trap`, `Heal` or `Finish` (`Busy`). `Ok` is the precondition of the call that does the step.
 #[inline(always)]
 #[tactic(auto, unfolding(model::specs::Outcome::thread_gate))]
 pub fn thread_gate(heap: &Heap, thread: u32, step: &Step) -> Result<(), Refusal>
@@ -169,8 +169,8 @@ pub fn thread_gate(heap: &Heap, thread: u32, step: &Step) -> Result<(), Refusal>
     Ok(())
 }
 
-/// Makes the tests of every step of a worker, in their order: no such worker, or no step of a worker; a number that
-/// names nothing. Its Ok is the precondition of the call that does the step.
+/// Makes the leading tests of a worker's step, in their order: no such worker, or no step of a worker (`NoActor`); a
+/// number out of range (`BadIndex`). `Ok` is the precondition of the call that does the step.
 #[tactic(auto, unfolding(model::specs::Outcome::worker_gate))]
 pub fn worker_gate(heap: &Heap, worker: u32, step: &Step) -> Result<(), Refusal>
     ensures { result ≡ worker_gate heap.now worker step.now }

@@ -2,16 +2,16 @@
 //!
 //! # The algorithm
 //!
-//! The collector's work is cut into steps here, each of one thread or one worker, and nothing happens between steps.
+//! The collector's work is divided into steps, each of one thread or one worker, and nothing happens between steps.
 //! `docs/ALGORITHM.md` has the rules in full.
 //!
-//! A cycle has two halves, and threads run on in both.
+//! A cycle has two halves, during both of which threads run.
 //!
-//! 1. **Mark** finds what is reachable. `StartMark` flips the clean NMT value, so that each word in the heap has still
-//!    to be seen, and opens the first checkpoint. Each thread crosses it by itself, which marks what its registers
-//!    name; a worker crosses for a parked one. The last crossing begins the scan: workers pick marked objects and mark
-//!    what their references name, writing each word back with the clean value. `EndMark` ends it when nothing is grey
-//!    and no barrier is open: what is marked is live, the rest is garbage.
+//! 1. **Mark** finds what is reachable. `StartMark` flips the clean NMT value, so that no reference in the heap counts
+//!    as seen, and opens the first checkpoint. Each thread crosses it by itself, which marks what its registers refer
+//!    to; a worker crosses for a parked one. The last crossing begins the scan: workers pick grey objects and mark
+//!    what their references refer to, writing each reference back with the clean value. `EndMark` ends it when nothing
+//!    is grey and no barrier is open: what is marked is live, the rest is garbage.
 //! 2. **Relocate** empties pages. `Protect` protects some, plans a place for each of their live objects in a
 //!    forwarding table apart from the page, and opens the second checkpoint. A thread that hasn't crossed may still
 //!    use the old places; one that has crossed may not, and nothing is copied before all have crossed. Then workers
@@ -19,18 +19,18 @@
 //!    all copied, at once. References to the old places remain, and the next mark corrects them all: **Remap** is no
 //!    phase of its own. Only then is the page's number free.
 //!
-//! The **read barrier** serves both. A thread that loads a reference asks for its traps before it uses it. The GC
-//! trap is due if the word leads to a protected page: it copies what isn't copied yet and corrects the word. The NMT
-//! trap is due if a mark runs and hasn't seen the word: it marks the word. Then the thread heals the place that it
-//! loaded from, if that still holds what was loaded, and takes the word. So a thread that has crossed gets no word
-//! into a register that the collector has still to look at.
+//! The **read barrier** serves both. A thread that loads a reference requests its traps before it uses it. The GC
+//! trap is due if the reference leads to a protected page: it copies the object if it isn't copied yet, and corrects
+//! the reference. The NMT trap is due if a mark runs and hasn't seen the reference: it marks it. Then the thread
+//! heals the place that it loaded from, if that still has what was loaded, and its register gets the reference. So a
+//! thread that has crossed never has a reference in a register that the collector has yet to look at.
 //!
 //! | Who | Writes |
 //! |---|---|
 //! | a thread | its registers, its buffer with the page that it takes it from, its barrier, and whether it is parked |
 //! | a thread, or a worker for a parked one | whether the thread has crossed; the last crossing moves the phase on |
 //! | any thread | objects and globals, through registers that may be used; a place that it heals |
-//! | who marks a word, a thread or a worker | the word itself, and its object's bits in `mark` and `todo` |
+//! | who marks a reference, a thread or a worker | the reference itself, and its object's bits in `mark` and `todo` |
 //! | who copies an object, a thread or a worker | its planned place, `starts` there, and the entry's flag |
 //! | workers alone | all other changes of phase, the NMT value, scans, which pages are emptied, forwarding tables |
 #![tactic(auto)]

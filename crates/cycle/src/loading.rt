@@ -15,8 +15,8 @@ use heap::Heap;
 use model::{Actor, Answer, Barrier, Refusal, Reply, Step};
 use std::alloc::AllocError;
 
-/// The most traps of one load. After one that forwards and one that marks none is due any more, so the third is
-/// clear.
+/// The greatest number of traps of one load. After one that corrects the reference and one that marks it, none is
+/// due, so the third is clear.
 pub const MOST_TRAPS: u32 = 3;
 
 /// No load of a recorded heap needs more than three traps. It does nothing: its contract is the law.
@@ -31,7 +31,7 @@ pub fn is_clear(answer: Answer) -> bool
     matches!(answer, Answer::Clear)
 }
 
-/// Returns whether the word of an open load was corrected, and its place isn't healed yet.
+/// Returns whether the reference of an open load was corrected, and its place isn't healed yet.
 fn waits_for_heal(barrier: Option<Barrier>) -> bool
     ensures { result ≡ waits_for_heal barrier }
 {
@@ -60,8 +60,8 @@ fn is_due_for(heap: &Heap, actor: Actor) -> bool
 }
 
 impl Book {
-    /// Does one step, as `act` does, and appends its reply. Returns `AllocError` if out of memory, for the reply or
-    /// in the step; then recorded heap and replies are as they were. So the reply is never `Memory`.
+    /// Does one step, as `act` does, and appends its reply. Fails if out of memory, for the reply or in the step;
+    /// then recorded heap and replies are as they were. So the reply is never `Memory`.
     pub fn act_into(
         &mut self,
         actor: Actor,
@@ -147,11 +147,11 @@ impl Book {
     }
 
     /// Continues a load that has begun, to its end: traps until one is clear, heals the place if a trap was due, and
-    /// finishes. An error is the end. Returns the reply of its last step, and appends all.
+    /// finishes. An error ends it. Returns the reply of its last step, and appends all.
     ///
-    /// Returns `AllocError` if out of memory. What is done then is a beginning of these steps, each of them accepted,
-    /// and their replies are appended. This call may be made again, and continues from there: a trap that was due
-    /// before has its place healed.
+    /// Fails only if out of memory. A beginning of these steps is done then, each of them accepted, and their replies
+    /// are appended. The call may be repeated, and continues from there: if a trap was due before, the place is
+    /// healed.
     pub fn end_load(&mut self, actor: Actor, replies: &mut Vec<Reply>) -> Result<Reply, AllocError>
         ensures steps { OnOk result (Leaves (end_load self.old actor) replies.old.items self.new replies.new.items) }
         ensures last { IfOk result (EndsIn replies.new.items) }
@@ -183,8 +183,8 @@ impl Book {
     }
 
     /// Does a complete load, as one call: the step that begins it, which is `Load` or `LoadGlobal`, then all that
-    /// `end_load` does. Returns `Ok` if the register has the reference; else the first error, and `Memory` if out of
-    /// memory. The steps' replies are appended to `replies`.
+    /// `end_load` does. Returns `Ok` if the register has the reference, else the first error, which is `Memory` if
+    /// out of memory. The steps' replies are appended to `replies`.
     ///
     /// After `Memory` a beginning of these steps is done, each of them accepted, and their replies are appended. If
     /// the load had begun, `end_load` continues it.

@@ -12,36 +12,36 @@ use heap::Heap;
 use model::{Buffer, Refusal, Trap};
 
 /// The steps of mutator threads on a heap, each as a call of its own, with plain values in and out. It is for
-/// programs that hold a heap.
+/// programs that own a heap.
 ///
-/// `thread`, registers (`target`, `object`, `source`, `left`, `right`, `register`), `layout`,
-/// `field`, `index` and `global` are numbers from 0; `field` and `index` count within an object,
-/// references and data each. `words` counts words.
+/// `thread`, registers (`target`, `object`, `source`, `left`, `right`, `register`), `layout`, `field`, `index` and
+/// `global` are numbers from 0; `field` and `index` count within an object, references and data each. `words` counts
+/// words.
 ///
 /// Each call tests first, in this order, and fails with `NoActor` if there is no such thread, `BadIndex` if a number
-/// names nothing, `Parked` if the thread is parked (except `unpark`), and `Busy` if its barrier is open (except
+/// is out of range, `Parked` if the thread is parked (except `unpark`), and `Busy` if its barrier is open (except
 /// `trap`, `heal` and `finish`). Each call lists its further errors. A call that fails changes nothing.
 ///
-/// Each is `Stepping::step` of its step: it has the step's outcome, and returns the answer as a plain value. If the
-/// heap represents a reference model, in which no object moves or is freed, it also does after the call, whose value
-/// is the reference model's.
+/// Each has the outcome of `Stepping::step` of its step, and returns the answer as a plain value. If the heap
+/// represents a reference model, in which no object moves or is freed, it also does after the call, whose value is
+/// the reference model's.
 pub trait Mutating {
-    /// Takes a buffer of 1 to the words of a page, in the lowest open page with space, else in a fresh page, and
-    /// returns it: it is then the thread's.
+    /// Takes a buffer for the thread, of 1 to the words of a page, in the lowest open page with space, else in a
+    /// fresh page, and returns it.
     ///
-    /// Fails with `BadIndex` for a number of words that no page has; `HasBuffer` if there is one; `NoFrames` or
-    /// `NoPages` if no page has space, and no frame is free or no page number unused; `Memory` if out of memory for a
-    /// fresh page. No other call here fails with `Memory`.
+    /// Fails with `BadIndex` for a number of words that no page has; `HasBuffer` if the thread has a buffer;
+    /// `NoFrames` or `NoPages` if no page has space, and no frame is free or no page number unused; `Memory` if out
+    /// of memory for a fresh page. No other call here fails with `Memory`.
     fn take(&mut self, thread: u32, words: u32) -> Result<Buffer, Refusal>;
 
-    /// Gives the buffer back; the rest of it is lost. Fails with `NoRoom` if there is none.
+    /// Gives the thread's buffer back; its rest stays unused. Fails with `NoRoom` if there is none.
     fn give_back(&mut self, thread: u32) -> Result<(), Refusal>;
 
-    /// Makes an object in the buffer, with null references and data of 0, and writes its word to a register. Returns
-    /// its birth number: how many were born before it.
+    /// Allocates an object in the buffer, with null references and data of 0, and writes its reference to a register.
+    /// Returns its birth: how many objects were allocated before it.
     ///
     /// Fails with `BadIndex` for a register or a layout that doesn't exist; `NoRoom` if there is no buffer, or one
-    /// with fewer words; `Births` if no more objects may be born.
+    /// with fewer words; `Births` if the limit of births is reached.
     fn new_object(&mut self, thread: u32, target: u32, layout: u32) -> Result<u64, Refusal>;
 
     /// Begins to load a reference field of an object into a register: opens a read barrier.
@@ -54,33 +54,33 @@ pub trait Mutating {
     /// global that doesn't exist.
     fn load_global(&mut self, thread: u32, target: u32, global: u32) -> Result<(), Refusal>;
 
-    /// Corrects or marks the word in the barrier, and returns which trap was due. To correct it, the thread first
-    /// copies the object if it isn't copied yet.
+    /// Corrects or marks the reference in the barrier, and returns which trap was due. To correct it, the thread
+    /// first copies the object if it isn't copied yet.
     ///
-    /// Fails with `NotBusy` if no barrier is open, and with `Stall` if the word names a protected page while a thread
-    /// has still to cross.
+    /// Fails with `NotBusy` if no barrier is open, and with `Stall` if the reference leads to a protected page while
+    /// a thread has yet to cross.
     fn trap(&mut self, thread: u32) -> Result<Trap, Refusal>;
 
-    /// Writes the word in the barrier back to the place of the load, if that hasn't changed. Returns whether it was
-    /// written.
+    /// Writes the reference in the barrier back to the place of the load, if that hasn't changed. Returns whether it
+    /// was written.
     ///
     /// Fails with `NotBusy` if no barrier is open, and with `Busy` if a trap is due.
     fn heal(&mut self, thread: u32) -> Result<bool, Refusal>;
 
-    /// Ends the load: its register gets the word in the barrier, which closes.
+    /// Ends the load: its register gets the reference in the barrier, which closes.
     ///
-    /// Fails with `NotBusy` if no barrier is open, and with `Busy` if a trap is due, or the word was corrected and
-    /// its place isn't healed.
+    /// Fails with `NotBusy` if no barrier is open, and with `Busy` if a trap is due, or the reference was corrected
+    /// and its place isn't healed.
     fn finish(&mut self, thread: u32) -> Result<(), Refusal>;
 
-    /// Writes a register's word to a reference field of an object.
+    /// Writes a register's reference to a field of an object.
     ///
     /// Fails with `BadIndex` for a register or a field that doesn't exist; `Null`, `Stall` or `Stale` if the object's
     /// register may not be used; `Stall` or `Stale` if the source's may not.
     fn store(&mut self, thread: u32, object: u32, field: u32, source: u32) -> Result<(), Refusal>;
 
-    /// Writes a register's word to a global. Fails with `BadIndex` for a register or a global that doesn't exist;
-    /// `Stall` or `Stale` if the register may not be used.
+    /// Writes a register's reference to a global. Fails with `BadIndex` for a register or a global that doesn't
+    /// exist; `Stall` or `Stale` if the register may not be used.
     fn store_global(&mut self, thread: u32, global: u32, source: u32) -> Result<(), Refusal>;
 
     /// Reads a data word of an object. Fails with `BadIndex` for a register or a word that doesn't exist; `Null`,
@@ -96,14 +96,14 @@ pub trait Mutating {
         value: u64,
     ) -> Result<(), Refusal>;
 
-    /// Returns whether two registers name the same object, or are both null. Fails with `BadIndex` for a register
+    /// Returns whether two registers refer to the same object, or are both null. Fails with `BadIndex` for a register
     /// that doesn't exist; `Stall` or `Stale` if one may not be used.
     fn same(&self, thread: u32, left: u32, right: u32) -> Result<bool, Refusal>;
 
     /// Returns whether a register is null. Fails with `BadIndex` for a register that doesn't exist.
     fn is_null(&self, thread: u32, register: u32) -> Result<bool, Refusal>;
 
-    /// Copies a register's word to another register. Fails with `BadIndex` for a register that doesn't exist.
+    /// Copies a register's reference to another register. Fails with `BadIndex` for a register that doesn't exist.
     fn copy_register(&mut self, thread: u32, target: u32, source: u32) -> Result<(), Refusal>;
 
     /// Makes a register null. Fails with `BadIndex` for a register that doesn't exist.
@@ -113,10 +113,10 @@ pub trait Mutating {
     /// crossed.
     fn cross(&mut self, thread: u32) -> Result<(), Refusal>;
 
-    /// Corrects a register that names a protected page. Returns whether it did.
+    /// Corrects a register that refers to a protected page. Returns whether it did.
     ///
-    /// Fails with `BadIndex` for a register that doesn't exist; `Null` if it is null; `Stall` if it names a protected
-    /// page that the thread may not use, while another has still to cross.
+    /// Fails with `BadIndex` for a register that doesn't exist; `Null` if it is null; `Stall` if it refers to a
+    /// protected page that the thread may not use, while another has yet to cross.
     fn scrub(&mut self, thread: u32, register: u32) -> Result<bool, Refusal>;
 
     /// Parks the thread: it may do nothing but `unpark`.

@@ -1,4 +1,4 @@
-//! Which pages a step can name together.
+//! Which lists of pages a step may have.
 
 ghost use Rattle.std.specs.Prelude.{◌≡◌, ◌==◌};
 ghost use Rattle.std.specs.List.{list_any};
@@ -16,7 +16,7 @@ pub(crate) fn no_page(heap: &Heap, page: u32) -> bool
     page == 0 || page > heap.memory().page_count()
 }
 
-/// Returns whether a list names a page that doesn't exist.
+/// Returns whether a list has the number of a page that doesn't exist.
 #[tactic(auto, unfolding(model::specs::Outcome::no_page))]
 fn names_no_page(heap: &Heap, pages: &[u32]) -> bool
     ensures { result ≡ list_any (no_page_in heap.now.store) pages.now }
@@ -58,8 +58,8 @@ fn has_pair(pages: &[u32]) -> bool
     false
 }
 
-/// Returns whether a page is in a list twice. A list that rises names none twice, which one pass finds; in all
-/// others, each two pages are compared.
+/// Returns whether a page is in a list twice. A list that rises has none twice, which one pass finds; in all others,
+/// each two pages are compared.
 #[tactic(auto, using(crate::proofs::NamedOnce::rising_once))]
 pub fn has_twice(pages: &[u32]) -> bool
     ensures { result ≡ has_twice pages.now }
@@ -67,8 +67,8 @@ pub fn has_twice(pages: &[u32]) -> bool
     !rises(pages) && has_pair(pages)
 }
 
-/// Returns whether pages can't be named together: none is named, or one that doesn't exist, or one twice. It takes no
-/// memory. If the numbers don't rise strictly, its time grows with the square of how many there are.
+/// Returns whether a list of pages is rejected: it is empty, or has a page that doesn't exist, or one twice. It
+/// allocates nothing. If the numbers don't rise strictly, its time grows with the square of the list's length.
 #[tactic(auto, using(crate::proofs::NamedOnce::bad_by_parts))]
 pub(crate) fn are_bad_pages(heap: &Heap, pages: &[u32]) -> bool
     ensures { result ≡ are_bad_pages heap.now pages.now }

@@ -9,8 +9,8 @@ use std::alloc::{AllocError, Global};
 
 /// Does each step in turn, and returns the reply to each, in order.
 ///
-/// Makes the list of the replies first: an `Err` leaves the recorded heap as it was. A step that runs out of memory
-/// has `Memory` as its reply, and the others go on.
+/// Allocates the list of the replies first: if it fails, the recorded heap is as it was. A step that runs out of
+/// memory has `Memory` as its reply, and the others go on.
 pub fn run(
     alloc: Global,
     book: &mut Book,

@@ -6,7 +6,7 @@ ghost use Rattle.model.specs.Saying.{said, done, loaded, lent, trapped, healed, 
 
 use model::{Answer, Buffer, Refusal, Reply, Trap};
 
-/// Returns the reply to a step whose answer is only that it is done.
+/// Returns the reply to a step whose answer is `Done`.
 #[inline(always)]
 pub fn done(told: Result<(), Refusal>) -> Reply
     ensures { result ≡ said done told }

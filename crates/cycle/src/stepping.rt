@@ -23,8 +23,8 @@ pub trait Stepping {
 
 impl Stepping for Heap {
     /// Has exactly the step's outcome: the first test that applies rejects it; else it returns its answer and has its
-    /// effect. It fails with `Memory` for `Take` and `Protect` alone, if out of memory for a fresh page or for a
-    /// growth, and then changes nothing.
+    /// effect. It fails with `Memory` for `Take` and `Protect` alone, if out of memory for a fresh page or for what
+    /// `Protect` prepares, and then changes nothing.
     ///
     /// If the heap represents a reference model, in which no object moves or is freed, it also does after an accepted
     /// step, and the answer is the reference model's.
@@ -100,7 +100,7 @@ fn thread_step(heap: &mut Heap, thread: u32, step: &Step) -> Reply
     }
 }
 
-/// Does the step of a worker, whose leading tests have passed.
+/// Does the step of a worker, after its leading tests.
 fn worker_row(heap: &mut Heap, worker: u32, step: &Step) -> Reply
     requires { WorkerPasses heap.old worker step.now }
     ensures { DoesStep heap.old step.now result heap.new (worker_row heap.old worker step.now) }

@@ -13,7 +13,7 @@ use Rattle.entries.specs.Events.{step_in, answer_in, place_in, IsShort}
 use Rattle.entries.specs.Blocks.{joined}
 use Rattle.entries.specs.Views.{entry_in, Stands}
 
--- a protection, which stands whole, and a buffer that was taken before it
+-- a `Protect`, which is stored in full, and a `Take` before it
 protected : Entry
 protected = record {
   actor = Worker 0;
@@ -24,7 +24,7 @@ protected = record {
 taken : Entry
 taken = record { actor = Thread 3; step = steps.Take 8; answer = answers.Lent 1 16 }
 
--- the same, as they are kept
+-- the same, as they are stored
 kept : List Kept
 kept =
     record { actor = Thread 3; event = events.Take 8 1 16 } ∷

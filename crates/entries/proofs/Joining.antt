@@ -8,7 +8,7 @@ use Rattle.std.proofs.lemmas.List.Elements.{All-append, All-cons, All-nil, All-h
 use Rattle.entries.specs.declared.blocks.Kept.{Kept}
 use Rattle.entries.specs.Blocks.{Block, IsFull, joined}
 
--- the last block is put to the full ones
+-- the last block is added to the full ones
 pub joined_more : (full : List Block) (b : Block) → joined (full ++ b ∷ []) [] ≡ joined full (vec_items b)
 unfolding joined
 joined_more full b =
@@ -19,20 +19,20 @@ pub all_full : (full : List Block) (b : Block) → All IsFull full → length (v
     → All IsFull (full ++ b ∷ [])
 all_full full b h e = All-append IsFull full (b ∷ []) h (All-cons IsFull b [] e (All-nil IsFull))
 
--- an entry goes behind the last block
+-- an entry is appended to the last block
 pub joined_pushed : (full : List Block) (last : List Kept) (k : Kept)
     → joined full (last ++ k ∷ []) ≡ joined full last ++ k ∷ []
 unfolding joined
 joined_pushed full last k = sym (append_assoc (flat_map vec_items full) last (k ∷ []))
 
--- there is one more
+-- there is one more entry
 pub has_more : (full : List Block) (last more : List Kept) (k : Kept) → more ≡ last ++ k ∷ []
     → length (joined full more) ≡ length (joined full last) + 1
 has_more full last more k e =
     ap (λ xs. length (joined full xs)) e ∙ ap length (joined_pushed full last k)
     ∙ length-append (joined full last) (k ∷ [])
 
--- an element of a list, and one behind it
+-- an element of a list, and one of the list after it
 left : {X : Type 0} (xs ys : List X) (i : ℕ) → i < length xs → slice_get (xs ++ ys) i ≡ slice_get xs i
 left [] ys i l = absurd (omega (arith, l))
 left (x ∷ xs) ys zero l = refl

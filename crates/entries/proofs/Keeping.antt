@@ -1,4 +1,4 @@
--- Entries that are kept stay as they are.
+-- Entries that are stored stay as they are.
 use Rattle.std.proofs.Common.{◌≡◌, List, [], ◌∷◌, ◌++◌, length, map, Option, Some, None, refl, sym, ◌∙◌, arith}
 use Rattle.std.specs.List.{All}
 use Rattle.std.proofs.lemmas.List.{get_or_append_left, get_or_push, map-append}
@@ -9,7 +9,7 @@ use Rattle.entries.specs.declared.blocks.Kept.{Kept}
 use Rattle.entries.specs.Events.{step_in, place_in}
 use Rattle.entries.specs.Views.{entry_in, entry_with, Stands, StandsBy}
 
--- one more entry stands whole
+-- after one more entry is stored in full
 stays : (w : List Entry) (e : Entry) (k : Kept) (s : Option Step) → StandsBy (length w) k s
     → entry_with (w ++ e ∷ []) k s ≡ entry_with w k s
 stays w e k (Some s) h = refl
@@ -21,7 +21,7 @@ all_stay w e [] h = refl
 all_stay w e (k ∷ ks) h =
     rw (stays w e k (step_in k.event) (h 0 k (omega arith)), all_stay w e ks (All-tail (Stands (length w)) k ks h)) refl
 
--- it is the one that is entered
+-- the last entry is the one that was entered
 pub entered_whole : (w : List Entry) (e : Entry) (ks : List Kept) (k : Kept) → All (Stands (length w)) ks
     → step_in k.event ≡ None → place_in k.event ≡ length w
     → map (entry_in (w ++ e ∷ [])) (ks ++ k ∷ []) ≡ map (entry_in w) ks ++ e ∷ []

@@ -4,7 +4,7 @@ use Rattle.std.specs.Global.{Vec}
 use Rattle.std.specs.List.{flat_map}
 use Rattle.entries.specs.declared.blocks.Kept.{Kept}
 
--- the entries of a list, and whether there is room for one more
+-- the entries of a list, and whether there is space for one more
 pub record BlocksState : Type 0 where
   pub items : List Kept
   pub has_room : Bool
@@ -13,7 +13,7 @@ pub record BlocksState : Type 0 where
 abbrev pub Block : Type 0
 Block = Vec Kept
 
--- it is full
+-- a block is full
 abbrev pub IsFull : Block → Type 0
 IsFull b = length (vec_items b) ≡ 2048
 

@@ -1,4 +1,4 @@
--- What short forms stand for.
+-- The meaning of short forms.
 use Rattle.std.specs.Prelude.{◌≡◌, ℕ, Option, Some, None}
 use Rattle.model.specs.declared.steps.Step.{Step}
 use Rattle.model.specs.declared.steps.Step.TheVariants as steps
@@ -7,7 +7,7 @@ use Rattle.model.specs.declared.steps.Answer.TheVariants as answers
 use Rattle.entries.specs.declared.event.Event.{Event}
 use Rattle.entries.specs.declared.event.Event.TheVariants as events
 
--- the step that a short form stands for; none where the entry stands whole
+-- the step of a short form; none if the entry is stored in full
 abbrev pub step_in : Event → Option Step
 step_in (events.Take words page offset) = Some (steps.Take words)
 step_in events.GiveBack = Some steps.GiveBack
@@ -45,7 +45,7 @@ step_in (events.Release page free) = Some (steps.Release page)
 step_in (events.CrossFor t) = Some (steps.CrossFor t)
 step_in (events.Whole i) = None
 
--- the answer that a short form stands for
+-- the answer of a short form
 abbrev pub answer_in : Event → Answer
 answer_in (events.Take words page offset) = answers.Lent page offset
 answer_in (events.New target layout birth) = answers.Birth birth
@@ -69,7 +69,7 @@ answer_in (events.CopyPage page copied) = answers.CopiedPage copied
 answer_in (events.Release page free) = answers.Released free
 answer_in _ = answers.Done
 
--- the place of an entry that stands whole
+-- the place of an entry that is stored in full
 abbrev pub place_in : Event → ℕ
 place_in (events.Whole i) = i
 place_in _ = 0

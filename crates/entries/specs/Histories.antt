@@ -4,12 +4,12 @@ use Rattle.entries.specs.declared.entry.Entry.{Entry}
 use Rattle.entries.specs.declared.entry.EntryRef.{EntryRef}
 use Rattle.entries.specs.declared.entry.EntryRef.TheVariants.{Made, Lent}
 
--- accepted steps with their answers, oldest first, and whether there is room for one more
+-- accepted steps with their answers, oldest first, and whether there is space for one more
 pub record HistoryState : Type 0 where
   pub entries : List Entry
   pub has_room : Bool
 
--- an entry that is made or lent
+-- an entry that is made or borrowed
 abbrev pub entry_of : EntryRef → Entry
 entry_of (Made e) = e
 entry_of (Lent e) = e.now

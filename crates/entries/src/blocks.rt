@@ -11,7 +11,7 @@ use std::alloc::{AllocError, Global};
 use std::marker::Model;
 use std::mem::replace;
 
-/// An entry as it is kept.
+/// An entry as it is stored, in 32 bytes.
 #[derive(Clone, Copy)]
 pub(crate) struct Kept {
     pub(crate) actor: Actor,
@@ -23,11 +23,11 @@ const _: () = prove!(size_of::<Kept>() == 32);
 /// How many entries a block has, of 64 KB.
 pub(crate) const BLOCK: usize = 2_048;
 
-/// The most entries of a list.
+/// The greatest number of entries of a list.
 const MOST: usize = 1 << 62;
 
-/// A list of entries, in blocks: one that is full stays where it is as more entries come. The first
-/// block grows as it is filled. A contract sees the list, and whether there is room for one more.
+/// A list of entries, in blocks: a full one isn't moved as more entries come. The first block grows as it is filled.
+/// A contract sees the list, and whether there is space for one more.
 #[derive(Drop)]
 pub(crate) struct Blocks {
     full: Vec<Vec<Kept, Global>, Global>,
@@ -49,7 +49,7 @@ impl Model for Blocks {
     ghost invariant = { AreBlocks };
 }
 
-/// Puts the last block to the full ones, and begins another.
+/// Adds the last block to the full ones, and begins another. Fails only if out of memory.
 #[tactic(auto, using(crate::proofs::Joining::joined_more, crate::proofs::Joining::all_full))]
 fn next_block(
     full: &mut Vec<Vec<Kept, Global>, Global>,
@@ -67,7 +67,7 @@ fn next_block(
     Ok(())
 }
 
-/// The entry of a number in a block, from 0, if there is one.
+/// Returns the entry of a number in a block, from 0, if there is one.
 fn entry_at(block: &[Kept], index: usize) -> Option<Kept>
     ensures { result ≡ slice_get block.now index }
 {
@@ -75,7 +75,7 @@ fn entry_at(block: &[Kept], index: usize) -> Option<Kept>
 }
 
 impl Blocks {
-    /// A list without entries. It takes no memory.
+    /// Returns a list without entries. It takes no memory.
     #[tactic(auto, unfolding(crate::specs::Blocks::joined))]
     pub(crate) fn new(alloc: Global) -> Blocks
         ensures { result.items ≡ [] }
@@ -87,7 +87,7 @@ impl Blocks {
         }
     }
 
-    /// How many entries there are: less than 2^63.
+    /// Returns the number of entries: less than 2^63.
     #[inline(always)]
     pub(crate) fn len(&self) -> usize
         ensures value { result ≡ length self.now.items }
@@ -96,7 +96,7 @@ impl Blocks {
         self.count
     }
 
-    /// The entry of a number, from 0, if there is one.
+    /// Returns the entry of a number, from 0, if there is one.
     pub(crate) fn get(&self, index: usize) -> Option<Kept>
         ensures { result ≡ slice_get self.now.items index }
     {
@@ -108,7 +108,7 @@ impl Blocks {
         }
     }
 
-    /// Makes room for one more entry. Fails only by memory.
+    /// Allocates space for one more entry. Fails only if out of memory.
     #[inline(always)]
     pub(crate) fn reserve(&mut self) -> Result<(), AllocError>
         ensures items { self.new.items ≡ self.old.items }
@@ -124,7 +124,7 @@ impl Blocks {
         }
     }
 
-    /// Puts an entry behind the others.
+    /// Appends an entry. There must be space for it.
     #[inline(always)]
     #[tactic(auto, using(crate::proofs::Joining::joined_pushed, crate::proofs::Joining::has_more))]
     pub(crate) fn push(&mut self, kept: Kept)

@@ -5,20 +5,20 @@ use model::{Actor, Answer, Step};
 /// An accepted step of an actor, with its answer.
 #[derive(Debug, Drop)]
 pub struct Entry {
-    /// Who did it.
+    /// The actor that did it.
     pub actor: Actor,
-    /// What was done.
+    /// The step.
     pub step: Step,
-    /// What it said.
+    /// Its answer.
     pub answer: Answer,
 }
 
 /// An entry of a history.
 #[derive(Debug, Drop)]
 pub enum EntryRef<'a> {
-    /// Made from its short form.
+    /// An entry that was made from its short form.
     Made(Entry),
-    /// Lent, as it stands.
+    /// An entry that is stored in full, borrowed.
     Lent(&'a Entry),
 }
 
@@ -26,7 +26,7 @@ ghost use Rattle.std.specs.Prelude.{◌≡◌};
 ghost use Rattle.entries.specs.Histories.{entry_of};
 
 impl EntryRef<'_> {
-    /// The entry.
+    /// Returns the entry.
     pub fn entry(&self) -> &Entry
         ensures { result.now ≡ entry_of self.now }
     {

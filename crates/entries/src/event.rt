@@ -7,8 +7,8 @@ ghost use Rattle.entries.specs.Events.{step_in, answer_in, place_in, IsShort};
 
 use model::{Answer, Step};
 
-/// A step and its answer, in 24 bytes: each is named by its step, and has the numbers of the step,
-/// then those of the answer. `Whole` has the place of an entry that stands whole.
+/// A step and its answer, in 24 bytes: a variant has the name of its step, and the step's numbers, then those of the
+/// answer. `Whole` has the place of an entry that is stored in full.
 #[derive(Clone, Copy)]
 pub(crate) enum Event {
     Take(u32, u32, u32),
@@ -50,7 +50,7 @@ pub(crate) enum Event {
 
 const _: () = prove!(size_of::<Event>() == 24);
 
-/// An event that is answered `Done`, if that is the answer.
+/// Returns the event of a step if its answer is `Done`.
 #[inline(always)]
 fn done(step: &Step, answer: Answer, event: Event) -> Option<Event>
     requires { IsShort step.now answers.Done event }
@@ -62,7 +62,7 @@ fn done(step: &Step, answer: Answer, event: Event) -> Option<Event>
     }
 }
 
-/// An event that is answered `Loaded`, if that is the answer.
+/// Returns the event of a step if its answer is `Loaded`.
 #[inline(always)]
 fn loaded(step: &Step, answer: Answer, event: Event) -> Option<Event>
     requires { IsShort step.now answers.Loaded event }
@@ -74,7 +74,7 @@ fn loaded(step: &Step, answer: Answer, event: Event) -> Option<Event>
     }
 }
 
-/// The event of a `Trap`.
+/// Returns the event of a `Trap`, if it has one.
 #[inline(always)]
 fn trapped(answer: Answer) -> Option<Event>
     ensures { IfSome result (IsShort steps.Trap answer) }
@@ -87,7 +87,7 @@ fn trapped(answer: Answer) -> Option<Event>
     }
 }
 
-/// The event of a step that tells numbers, or one of two things.
+/// Returns the event of a step whose answer has numbers, or is one of two, if it has an event.
 #[inline(always)]
 fn telling_event(step: &Step, answer: Answer) -> Option<Event>
     ensures { IfSome result (IsShort step.now answer) }
@@ -122,7 +122,7 @@ fn telling_event(step: &Step, answer: Answer) -> Option<Event>
     }
 }
 
-/// The short form of a step with its answer, if they have one.
+/// Returns the short form of a step with its answer, if they have one.
 #[inline(always)]
 pub(crate) fn short_event(step: &Step, answer: Answer) -> Option<Event>
     ensures { IfSome result (IsShort step.now answer) }
@@ -165,7 +165,7 @@ pub(crate) fn short_event(step: &Step, answer: Answer) -> Option<Event>
     }
 }
 
-/// The step of a short form; none where the entry stands whole.
+/// Returns the step of a short form; `None` if the entry is stored in full.
 pub(crate) fn step_in(event: Event) -> Option<Step>
     ensures { result ≡ step_in event }
 {
@@ -215,7 +215,7 @@ pub(crate) fn step_in(event: Event) -> Option<Step>
     })
 }
 
-/// The answer of a short form; `Done` where the entry stands whole.
+/// Returns the answer of a short form; `Done` if the entry is stored in full.
 pub(crate) fn answer_in(event: Event) -> Answer
     ensures { result ≡ answer_in event }
 {
@@ -241,7 +241,7 @@ pub(crate) fn answer_in(event: Event) -> Answer
     }
 }
 
-/// The place of an entry that stands whole; 0 of a short form.
+/// Returns the place of an entry that is stored in full; 0 for a short form.
 pub(crate) fn place_in(event: Event) -> usize
     ensures { result ≡ place_in event }
 {

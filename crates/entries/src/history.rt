@@ -14,10 +14,10 @@ use std::alloc::{AllocError, Global};
 use std::fmt;
 use std::marker::Model;
 
-/// Accepted steps with their answers, oldest first. An entry takes 32 bytes; that of `Protect`, and
-/// of a step with an answer that it never has in a heap, takes 64 more, and the list (ours).
+/// Accepted steps with their answers, oldest first. An entry takes 32 bytes. That of `Protect`, and of a step with an
+/// answer that it never has in a heap, takes 64 more, and the memory of its list.
 ///
-/// A contract sees the list of the entries, and whether there is room for one more.
+/// A contract sees the list of the entries, and whether there is space for one more.
 #[derive(Drop)]
 pub struct History {
     kept: Blocks,
@@ -37,7 +37,7 @@ impl Model for History {
     ghost invariant = { IsKept };
 }
 
-/// The entry that is kept so, made or lent.
+/// Returns an entry that is stored, made from its short form or borrowed.
 fn found(kept: Kept, whole: &[Entry]) -> EntryRef<'_>
     requires { Stands (length whole.now) kept }
     ensures { entry_of result ≡ entry_in whole.now kept }
@@ -52,7 +52,7 @@ fn found(kept: Kept, whole: &[Entry]) -> EntryRef<'_>
     }
 }
 
-/// Lets an entry stand whole, behind the others.
+/// Appends an entry that is stored in full. There must be space for it.
 fn enter_whole(whole: &mut Vec<Entry, Global>, entry: Entry)
     requires { vec_len whole.old < vec_capacity whole.old }
     ensures { whole.new.items ≡ whole.old.items ++ entry ∷ [] }
@@ -61,7 +61,7 @@ fn enter_whole(whole: &mut Vec<Entry, Global>, entry: Entry)
 }
 
 impl History {
-    /// A history without entries. It takes no memory.
+    /// Returns a history without entries. It takes no memory.
     pub fn new(alloc: Global) -> History
         ensures { result.entries ≡ [] }
     {
@@ -71,7 +71,7 @@ impl History {
         }
     }
 
-    /// How many entries there are: less than 2^63.
+    /// Returns the number of entries: less than 2^63.
     #[inline(always)]
     pub fn len(&self) -> usize
         ensures value { result ≡ length self.now.entries }
@@ -80,14 +80,14 @@ impl History {
         self.kept.len()
     }
 
-    /// Whether there are no entries.
+    /// Returns whether there are no entries.
     pub fn is_empty(&self) -> bool
         ensures { result ≡ nat_eq (length self.now.entries) 0 }
     {
         self.len() == 0
     }
 
-    /// The entry of a number, from 0, if there is one.
+    /// Returns the entry of a number, from 0, if there is one.
     pub fn get(&self, index: usize) -> Option<EntryRef<'_>>
         ensures { option_map entry_of result ≡ slice_get self.now.entries index }
     {
@@ -97,7 +97,7 @@ impl History {
         }
     }
 
-    /// Makes room for one more entry. Fails only by memory.
+    /// Allocates space for one more entry. Fails only if out of memory.
     #[inline(always)]
     pub fn reserve(&mut self) -> Result<(), AllocError>
         ensures entries { self.new.entries ≡ self.old.entries }
@@ -107,7 +107,7 @@ impl History {
         self.whole.reserve(1)
     }
 
-    /// Enters an accepted step of an actor with its answer, behind the others.
+    /// Appends an accepted step of an actor with its answer. There must be space for it.
     #[inline(always)]
     pub fn enter(&mut self, actor: Actor, step: Step, answer: Answer)
         requires { self.old.has_room ≡ true }
@@ -133,7 +133,7 @@ impl History {
 }
 
 impl fmt::Debug for History {
-    /// How many entries there are, and none of them: a book may have a million.
+    /// Writes the number of entries, and none of them: a recorded heap may have a million.
     fn fmt<W: fmt::Write>(&self, f: &mut fmt::Formatter<W>) -> fmt::Result {
         f.debug_struct("History")
             .field("len", &self.len())

@@ -1,8 +1,8 @@
-//! Histories: accepted steps of actors with their answers, oldest first (ours).
+//! Histories: accepted steps of actors with their answers, oldest first.
 //!
-//! An entry whose step and answer go together takes 32 bytes, and holds no memory of its own. The
-//! few others stand whole in a list beside, so a history is let go at the cost of these few. The
-//! entries stand in blocks, which stay where they are as more entries come.
+//! An entry takes 32 bytes and owns no memory, unless it is that of `Protect` or its answer doesn't belong to its
+//! step. Those few are stored in full in a list of their own, so the time to free a history depends on them alone.
+//! The entries are in blocks, which aren't moved as more entries come.
 #![tactic(auto)]
 
 mod blocks;

@@ -1,14 +1,13 @@
-//! A cache that lives for millions of steps in a small heap, which is collected as it goes.
+//! A cache that lives for millions of steps in a small heap, which is collected as it runs.
 //!
-//! A table has a place for each of 64 keys; an entry that is put takes the place of the one before, which
-//! nobody keeps then.
+//! A table has a place for each of 64 keys; a new entry replaces the one before, which is garbage then.
 
 use crate::nodes::ME;
 use anyhow::Result;
 use pauseless::prelude::*;
 use std::alloc::Global;
 
-/// Registers: the table, an entry that is made, and one that is found.
+/// Registers: the table, a new entry, and a found one.
 const TABLE: Register = Register(0);
 
 const ENTRY: Register = Register(1);
@@ -28,10 +27,10 @@ const VALUE: Datum = Datum(1);
 /// The places of a table.
 const PLACES: u16 = 64;
 
-/// How often the cache is asked.
+/// How many look-ups are made.
 const TURNS: u64 = 500_000;
 
-/// An object of a layout in a register.
+/// Allocates an object of a layout in a register.
 fn make(
     alloc: Global,
     heap: &mut impl HeapCalls,
@@ -42,12 +41,12 @@ fn make(
     Ok(())
 }
 
-/// The place of a key.
+/// Returns the place of a key.
 fn place(key: u64) -> Field {
     Field((key % u64::from(PLACES)) as u32)
 }
 
-/// Puts a key's value into its place.
+/// Writes a key's value to its place.
 fn put(alloc: Global, heap: &mut impl HeapCalls, key: u64, value: u64) -> Result<()> {
     make(alloc, heap, ENTRY, ENTRIES)?;
     heap.set_datum(ME, ENTRY, KEY, key)?;
@@ -55,7 +54,7 @@ fn put(alloc: Global, heap: &mut impl HeapCalls, key: u64, value: u64) -> Result
     Ok(heap.store(ME, TABLE, place(key), ENTRY)?)
 }
 
-/// The value of a key, if it stands in its place.
+/// Returns the value of a key, if its place has it.
 fn get(heap: &mut impl HeapCalls, key: u64) -> Result<Option<u64>, Refusal> {
     heap.read(ME, FOUND, TABLE, place(key))?;
     if heap.is_null(ME, FOUND)? || heap.datum(ME, FOUND, KEY)? != key {
@@ -64,12 +63,12 @@ fn get(heap: &mut impl HeapCalls, key: u64) -> Result<Option<u64>, Refusal> {
     Ok(Some(heap.datum(ME, FOUND, VALUE)?))
 }
 
-/// What the cache stands before: the square of a key.
+/// Returns the value that the cache saves computing: the square of a key.
 fn square(key: u64) -> u64 {
     key.wrapping_mul(key)
 }
 
-/// Asks for the square of a key: true where the cache had it.
+/// Looks up the square of a key, and adds it if it is missing. Returns whether the cache had it.
 fn ask(alloc: Global, heap: &mut impl HeapCalls, key: u64) -> Result<bool> {
     let found = get(heap, key)?;
     if found == Some(square(key)) {
@@ -79,7 +78,7 @@ fn ask(alloc: Global, heap: &mut impl HeapCalls, key: u64) -> Result<bool> {
     Ok(false)
 }
 
-/// Asks for keys below 256 without order. Gives how many the cache had.
+/// Looks up keys below 256 in no order. Returns how many the cache had.
 fn ask_all(alloc: Global, mut heap: impl HeapCalls + Drop) -> Result<u64> {
     make(alloc, &mut heap, TABLE, TABLES)?;
     let mut hits = 0u64;
@@ -94,7 +93,7 @@ fn ask_all(alloc: Global, mut heap: impl HeapCalls + Drop) -> Result<u64> {
     Ok(hits)
 }
 
-/// A heap of a table and of entries: 4 frames of 256 words.
+/// Makes a heap for a table and entries: 4 frames of 256 words.
 fn new_heap(alloc: Global) -> Result<Heap> {
     let table = Layout {
         refs: PLACES,
@@ -104,7 +103,7 @@ fn new_heap(alloc: Global) -> Result<Heap> {
     Ok(Heap::new(alloc, Config::new(256, 4, layouts))?)
 }
 
-/// Makes a cache, and asks it. Gives how often it had what was asked for.
+/// Makes a cache, and looks up keys. Returns how many it had.
 pub fn run(alloc: Global) -> Result<u64> {
     ask_all(alloc, new_heap(alloc)?)
 }

@@ -11,12 +11,12 @@ const NODE: u32 = 0;
 
 const HEAD: u32 = 1;
 
-/// What the example asks of a book. It promises nothing, so that the proofs of the loops are short.
+/// The calls of the example on a recorded heap. They have no contracts, so that the proofs of the loops are short.
 trait Acting {
-    /// A step of the thread.
+    /// Does a step of the thread.
     fn act(&mut self, step: Step) -> Reply;
 
-    /// A load by the thread, whole.
+    /// Does a complete load by the thread.
     fn load(&mut self, alloc: Global, load: Step) -> Result<()>;
 }
 
@@ -31,7 +31,7 @@ impl Acting for Book {
     }
 }
 
-/// A node of this value becomes the head of the list.
+/// Pushes a node of this value to the list.
 fn push(book: &mut impl Acting, value: u64) -> Result<Answer, Refusal> {
     let (target, layout) = (NODE, 0);
     book.act(Step::New { target, layout })?;
@@ -51,7 +51,7 @@ fn push(book: &mut impl Acting, value: u64) -> Result<Answer, Refusal> {
     book.act(Step::CopyReg { target, source })
 }
 
-/// The node behind the head becomes the head, by a whole load.
+/// Removes the list's head by a complete load of the next node.
 fn pop(alloc: Global, book: &mut impl Acting) -> Result<()> {
     let next = Step::Load {
         target: HEAD,
@@ -88,13 +88,13 @@ fn fill_and_print(rt: &HostRuntime, mut book: impl Acting + Drop) -> Result<()> 
     print_list(rt, &mut book)
 }
 
-/// A book of one layout, of a reference and a datum.
+/// Makes a recorded heap with one layout, of a reference and a datum.
 fn new_book(alloc: Global) -> Result<Book> {
     let layouts = Layouts::new(vec![in alloc; Layout { refs: 1, nums: 1 }]?);
     Ok(Book::new(alloc, Config::new(512, 4, layouts))?)
 }
 
-/// Makes a list of five nodes on a book of its own, and prints it.
+/// Makes a list of five nodes on a new recorded heap, and prints it.
 pub fn run(rt: &HostRuntime) -> Result<()> {
     fill_and_print(rt, new_book(rt.alloc())?)
 }

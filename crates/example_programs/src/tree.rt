@@ -1,23 +1,22 @@
-//! A search tree that stays.
+//! A search tree that stays live.
 
 use crate::nodes::{CHILD, HERE, KEY, ME, NODE, ROOT, make, new_heap, waste};
 use anyhow::Result;
 use pauseless::prelude::*;
 use std::alloc::Global;
 
-/// The references of a node to what has lesser keys, and to the rest.
+/// The references of a node to the subtree of lesser keys, and to the other one.
 const LESS: Field = Field(0);
 
 const MORE: Field = Field(1);
 
-/// Where a key stands below a node.
+/// Returns the reference of a node under which a key belongs.
 fn side(heap: &impl HeapCalls, key: u64) -> Result<Field, Refusal> {
     let here = heap.datum(ME, HERE, KEY)?;
     Ok(if key < here { LESS } else { MORE })
 }
 
-/// A new node goes below the node that is looked at, or one of its children is looked at next; true
-/// where it has its place.
+/// Hangs a new node below the current node, or continues with one of its children. Returns whether it was hung.
 fn hang(heap: &mut impl HeapCalls, key: u64) -> Result<bool, Refusal> {
     let side = side(heap, key)?;
     heap.read(ME, CHILD, HERE, side)?;
@@ -29,7 +28,7 @@ fn hang(heap: &mut impl HeapCalls, key: u64) -> Result<bool, Refusal> {
     Ok(false)
 }
 
-/// A new node has its place in the tree, of at most so many levels.
+/// Inserts a new node into the tree, of at most `levels` levels.
 fn insert(alloc: Global, heap: &mut impl HeapCalls, key: u64, levels: u64) -> Result<()> {
     make(alloc, heap, key)?;
     if heap.is_null(ME, ROOT)? {
@@ -44,7 +43,7 @@ fn insert(alloc: Global, heap: &mut impl HeapCalls, key: u64, levels: u64) -> Re
     Ok(())
 }
 
-/// Whether the tree has a key.
+/// Returns whether the tree has a key.
 fn has(heap: &mut impl HeapCalls, key: u64, levels: u64) -> Result<bool, Refusal> {
     heap.copy_register(ME, HERE, ROOT)?;
     for _ in 0..levels {
@@ -69,7 +68,7 @@ fn fill(alloc: Global, heap: &mut impl HeapCalls) -> Result<()> {
     Ok(())
 }
 
-/// How many of the keys below 101 the tree has.
+/// Returns how many of the keys below 101 the tree has.
 fn count(heap: &mut impl HeapCalls) -> Result<u64, Refusal> {
     let mut found = 0u64;
     for key in 0..101u64 {
@@ -78,13 +77,13 @@ fn count(heap: &mut impl HeapCalls) -> Result<u64, Refusal> {
     Ok(found)
 }
 
-/// Fills a tree. Gives how many of the keys below 101 it has.
+/// Fills a tree. Returns how many of the keys below 101 it has.
 fn fill_and_count(alloc: Global, mut heap: impl HeapCalls + Drop) -> Result<u64> {
     fill(alloc, &mut heap)?;
     Ok(count(&mut heap)?)
 }
 
-/// Makes a tree of 100 of the keys below 101. Gives how many of these it has.
+/// Makes a tree of 100 of the keys below 101. Returns how many of these it has.
 pub fn run(alloc: Global) -> Result<u64> {
     fill_and_count(alloc, new_heap(alloc)?)
 }

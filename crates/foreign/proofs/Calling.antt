@@ -24,13 +24,13 @@ use Rattle.foreign.specs.Calls.{OnHeldOr, Stepped}
 use Rattle.foreign.specs.Lending.{replaced}
 use Rattle.foreign.specs.Looking.{Keeps}
 
--- of a handle that has a heap
+-- the contents of a handle that has a heap
 there : (Q : Option Held → Option Held → Type 0) (b g : Held) (old new : Option Held) → Some b ≡ old
     → new ≡ replaced old g → (new ≡ Some g → Q (Some b) new) → Q old new
 there Q b g old new was is k =
     subst (λ (o : Option Held). new ≡ replaced o g → Q o new) was k is
 
--- of a call on a handle's contents, by its effect on them
+-- a call on a handle's contents, by its effect on them
 pub on_held : (P : Held → ℕ → Held → Type 0) (b : Held) (old : Option Held) (code : ℕ) (g : Held) (new : Option Held)
     → Some b ≡ old → P b code g → new ≡ replaced old g → OnHeld P old code new
 on_held P b old code g new was did is =
@@ -41,7 +41,7 @@ pub on_held_or : (S : Type 0) (P : Held → ℕ → Held → Type 0) (b : Held) 
 on_held_or S P b old code g new was did is =
     there (λ o n. OnHeldOr S P o code n) b g old new was is (λ same. (g, did, same))
 
--- of a call on a heap
+-- a call on a heap
 pub called : {A : Type 0} (C : HeapState → Refusal → ℕ) (P : HeapState → Result A Refusal → HeapState → Type 0)
     (b : Held) (old : Option Held) (r : Result A Refusal) (code : ℕ) (g : Held) (new : Option Held)
     → Some b ≡ old → P b.heap r g.heap → code ≡ code_by (C g.heap) r → new ≡ replaced old g → Calls C P old code new
@@ -56,7 +56,7 @@ pub given : {A : Type 0} (C : HeapState → Refusal → ℕ) (P : HeapState → 
 given C P Q S b old r code g new was did gave says is =
     there (λ o n. Gives C P Q S o code n) b g old new was is (λ same. (r, g, did, gave, says, same))
 
--- of a step of thread t
+-- a step of thread t
 pub stepped : {A : Type 0} (answer : A → Answer) (t : ℕ) (step : Step) (b : Held) (old : Option Held)
     (r : Result A Refusal) (code : ℕ) (g : Held) (new : Option Held)
     → Some b ≡ old → DoesThread answer b.heap t step r g.heap → ThreadStands answer b.heap t step r g.heap
@@ -64,7 +64,7 @@ pub stepped : {A : Type 0} (answer : A → Answer) (t : ℕ) (step : Step) (b : 
 stepped answer t step b old r code g new was does stands says is =
     called (step_code step) (Stepped answer t step) b old r code g new was (does, stands) says is
 
--- of a look by a step of thread t
+-- a read by a step of thread t
 pub looked : {A : Type 0} (answer : A → Answer) (t : ℕ) (step : Step) (Q : A → Type 0) (S : Type 0) (b : Held)
     (old : Option Held) (r : Result A Refusal) (code : ℕ) (new : Option Held)
     → Some b ≡ old → DoesThread answer b.heap t step r b.heap → ThreadStands answer b.heap t step r b.heap
@@ -73,7 +73,7 @@ pub looked : {A : Type 0} (answer : A → Answer) (t : ℕ) (step : Step) (Q : A
 looked answer t step Q S b old r code new was does stands gave says is =
     given (step_code step) (Stepped answer t step) Q S b old r code b new was (does, stands) gave says is
 
--- of a complete load
+-- a complete load
 pub loaded : (t : ℕ) (begin : Step) (b : Held) (old : Option Held) (r : Result Unit Refusal) (code : ℕ) (g : Held)
     (new : Option Held)
     → Some b ≡ old → LoadsWhole b.heap t begin r g.heap → LoadStands b.heap t begin r g.heap
@@ -81,7 +81,7 @@ pub loaded : (t : ℕ) (begin : Step) (b : Held) (old : Option Held) (r : Result
 loaded t begin b old r code g new was loads stands says is =
     called (step_code begin) (Loaded t begin) b old r code g new was (loads, stands) says is
 
--- of a load in one go
+-- a load in one go
 pub loaded_in_one : (t : ℕ) (begin : Step) (b : Held) (old : Option Held) (is_done : Bool) (g : Held)
     (new : Option Held) → Some b ≡ old → MayLoadWhole is_done b.heap t begin g.heap → is_done ≡ true
     → new ≡ replaced old g → CallsLoad t begin old 0 new
@@ -89,7 +89,7 @@ loaded_in_one t begin b old true g new was may it is =
     loaded t begin b old (Ok tt) 0 g new was may.0 may.1 refl is
 loaded_in_one t begin b old false g new was may it is = absurd (cc)
 
--- of a step in one go
+-- a step in one go
 pub stepped_in_one : (t : ℕ) (step : Step) (b : Held) (old : Option Held) (is_done : Bool) (g : Held)
     (new : Option Held) → Some b ≡ old → MayStep is_done b.heap t step g.heap → is_done ≡ true
     → new ≡ replaced old g → CallsStep done t step old 0 new
@@ -97,7 +97,7 @@ stepped_in_one t step b old true g new was may it is =
     stepped done t step b old (Ok tt) 0 g new was may.0 may.1 refl is
 stepped_in_one t step b old false g new was may it is = absurd (cc)
 
--- of a datum that is read in one go
+-- a datum that is read in one go
 pub datum_in_one : (t object j value : ℕ) (S : Type 0) (b : Held) (old new : Option Held) → Some b ≡ old
     → GivesDatum b.heap t object j value
     → ThreadStands answers.Datum b.heap t (steps.Datum object j) (Ok value) b.heap → new ≡ replaced old b
@@ -106,7 +106,7 @@ datum_in_one t object j value S b old new was gives stands is =
     looked answers.Datum t (steps.Datum object j) (λ x. value ≡ x) S b old (Ok value) 0 new was gives stands refl refl
     is
 
--- of several
+-- several loads
 pub loaded_each : (t object : ℕ) (ls : List FieldLoad) (b : Held) (old : Option Held) (r : Result Unit LoadsFault)
     (code done : ℕ) (g : Held) (new : Option Held)
     → Some b ≡ old → EndsLoads t object 0 ls b.heap r g.heap → code ≡ code_of_loads object ls g.heap r
@@ -114,7 +114,7 @@ pub loaded_each : (t object : ℕ) (ls : List FieldLoad) (b : Held) (old : Optio
 loaded_each t object ls b old r code done g new was loads says many is =
     there (λ o n. LoadsEach t object ls o code done n) b g old new was is (λ same. (r, g, loads, says, many, same))
 
--- the same of a call that leaves the heap
+-- the same for a call that leaves the heap as it is
 pub kept : (b : Held) (old : Option Held) (code : ℕ) (g : Held) (new : Option Held) → Some b ≡ old → g.heap ≡ b.heap
     → g.parts ≡ b.parts → code ≡ 0 → new ≡ replaced old g → Keeps old code new
 kept b old code g new was heap parts done is =

@@ -1,4 +1,4 @@
--- Places that C hands in.
+-- Places that C passes.
 use Rattle.std.proofs.Common.{◌≡◌, inl, inr, ℕ, ◌∙◌, arith, ap, refl, subst, sym}
 use Rattle.std.specs.Prelude.{Result, Err}
 use Rattle.refword.specs.Words.{IsAddress}
@@ -7,7 +7,7 @@ use Rattle.model.specs.States.{HeapState}
 use Rattle.viewing.specs.Viewing.{IsHandle, handle_at}
 use Rattle.foreign.specs.Views.{OfPlace, ReadsPlace}
 
--- a place where no object can be
+-- a place at which no object can be
 pub place_refused : {A : Type 0} (P : HeapState → ℕ → Result A Refusal → Type 0) (place : ℕ) (h : HeapState)
     (e : Refusal) (r : Result A Refusal) → ReadsPlace place (Err e) → r ≡ Err e → OfPlace P place h r h
 place_refused P place h e r (inl (zero, is)) same = record {
@@ -21,7 +21,7 @@ place_refused P place h e r (inr (other, off, is)) same = record {
   same = refl;
 }
 
--- a place where one can be
+-- a place at which one can be
 pub place_read : {A : Type 0} (P : HeapState → ℕ → Result A Refusal → Type 0) (place a : ℕ) (h : HeapState)
     (r : Result A Refusal) → (a ≡ place) × IsAddress a → (IsHandle (handle_at h a) → P h a r) → OfPlace P place h r h
 place_read P place a h r (is, range) reads = record {

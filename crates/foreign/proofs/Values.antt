@@ -81,7 +81,7 @@ module _ {M : Type 1} {𝓤 : Ura M} {𝓛 : Logic 𝓤} {K : Type 0} {Γ : List
       (subst (λ (ws : List Val). vs ≡ vstruct (of_list (ptr_val d.ptr ∷ (ws ++ []))) ∷ []) (heap_Tells d.alloc
       vss.1.0 is) (subst (λ (ps : List Val). vs ≡ vstruct (of_list (ps ++ (vss.1.0 ++ []))) ∷ []) ep ev))))))))
 
--- the value that is there
+-- the value of an option that has one
 pub held_value : (o : Option Held) → is_held o ≡ true → (x : Held) × (o ≡ Some x)
 held_value None h = absurd (false≢true h)
 held_value (Some x) h = (x, refl)

@@ -1,4 +1,4 @@
--- The effect of a call on the heap that a handle holds.
+-- The effect of a call on the heap of a handle.
 use Rattle.std.specs.Prelude.{◌≡◌, ℕ, Bool, false, List, Option, Some, None, Result, IfOk, MatchResult}
 use Rattle.model.specs.declared.records.Buffer.{Buffer}
 use Rattle.model.specs.declared.steps.Step.{Step}
@@ -46,8 +46,8 @@ abbrev pub Calls : {A : Type 0} → (HeapState → Refusal → ℕ) → (HeapSta
     → Option Held → ℕ → Option Held → Type 0
 Calls C P old code new = OnHeld (CodedBy C P) old code new
 
--- Calls for a call that writes its result through a pointer: Q is what is written if the call was done, and S that
--- nothing was written
+-- Calls for a call that writes its result through a pointer: Q is the condition on what is written if the call was
+-- done, and S that nothing was written
 abbrev pub Gives : {A : Type 0} → (HeapState → Refusal → ℕ) → (HeapState → Result A Refusal → HeapState → Type 0)
     → (A → Type 0) → Type 0 → Option Held → ℕ → Option Held → Type 0
 Gives C P Q S None code new = (code ≡ NO_HEAP) × (new ≡ None) × S
@@ -102,7 +102,7 @@ abbrev pub Made : ℕ → ℕ → ℕ → ℕ → ℕ → HeapState → Result �
 Made words percent t target layout h r g =
     EndsMaking t words percent target layout h r g × MakingStands t target layout h r g
 
--- thread t was to make an object, and to fill it
+-- thread t was to make an object and fill it
 abbrev pub MadeWith : ℕ → ℕ → ℕ → ℕ → ℕ → List ℕ → List ℕ → HeapState → Result ℕ Refusal → HeapState → Type 0
 MadeWith words percent t target layout sources nums h r g =
     EndsMakingWith t words percent target layout sources nums h r g

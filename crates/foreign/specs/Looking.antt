@@ -1,4 +1,4 @@
--- Reads of the heap that a handle holds.
+-- Reads of the heap of a handle.
 use Rattle.std.specs.Prelude.{◌≡◌, ◌⊎◌, ℕ, Option, Some, None, count_by, is_none}
 use Rattle.model.specs.States.{HeapState}
 use Rattle.foreign.specs.declared.held.Held.{Held}

@@ -15,7 +15,8 @@ use Rattle.foreign.specs.Codes.{code_of, policy_code}
 use Rattle.foreign.specs.Calls.{CodedBy, CollectedBy, IsTold, Made, MadeWith, PartOf, Refilled}
 use Rattle.foreign.specs.Which.{fill_code, make_code, plain_code}
 
--- a call was done, if its policy or percentage is in its range; else the code says what isn't, and nothing was done
+-- a call was done, if its policy or percentage is in its range; else the code tells which field isn't, and nothing
+-- was done
 abbrev pub InRange : Option PolicyFault → (Held → ℕ → Held → Type 0) → Held → ℕ → Held → Type 0
 InRange None P h code g = P h code g
 InRange (Some f) P h code g = (code ≡ policy_code f) × (g ≡ h)

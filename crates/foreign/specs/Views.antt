@@ -1,4 +1,4 @@
--- The heap that a handle holds, read in its current state.
+-- The heap of a handle, read in its current state.
 use Rattle.std.specs.Prelude.{◌≡◌, ◌⊎◌, ◌≢◌, ℕ, Option, Some, None, Result, Ok, Err}
 use Rattle.refword.specs.Words.{IsAddress}
 use Rattle.collecting.specs.declared.seeing.Object.{Object}

@@ -1,4 +1,4 @@
-//! The handle that C holds.
+//! The handle of C.
 
 ghost use Rattle.std.specs.Prelude.{◌≡◌, ◌==◌, Some, None};
 ghost use Rattle.foreign.specs.Holding.{held_in, is_held};
@@ -11,7 +11,7 @@ use std::alloc::Global;
 /// The mark of a handle that has a heap: the letters `pauseles` in a word, the first one lowest.
 pub(crate) const MARK: u64 = 8_315_171_469_994_058_096;
 
-/// `pauseless_heap`, the handle that C holds. It has a heap if it is marked, else none.
+/// `pauseless_heap`, the handle of C. It has a heap if it is marked, else none.
 #[repr(C)]
 #[derive(Drop)]
 pub struct Handle {

@@ -14,7 +14,7 @@ pub struct Held {
     pub heap: ManagedHeap,
     /// How far a collection in parts has come.
     pub parts: Parts,
-    /// Whether the heap's memory follows what lives in it.
+    /// Whether the heap's memory follows its live objects.
     pub follows: bool,
     /// How many frames the heap may use until it is collected, if so.
     pub target: Target,

@@ -1,8 +1,8 @@
 //! The heap for C: a static library whose functions `include/pauseless.h` declares, each thin over a call of a
 //! `ManagedHeap`, with that call's clauses.
 //!
-//! C holds a `Handle`, which has a word that marks it and a pointer to a heap in a box. A call borrows the heap from
-//! the handle; a handle without a heap is recognized by its mark. The header says what can't be checked here.
+//! C has a `Handle`, with a word that marks it and a pointer to a heap in a box. A call borrows the heap from the
+//! handle; a handle without a heap is recognized by its mark. The header lists what can't be checked here.
 //!
 //! The contract of an export is about the handle's contents before and after it. `alloc` takes no bytes: C passes
 //! nothing for it.

@@ -14,7 +14,7 @@ use verifying::verify_held;
 #[repr(C)]
 #[derive(Clone, Copy)]
 pub struct CountsOfC {
-    /// How many objects were born.
+    /// How many objects were allocated.
     pub births: u64,
     /// The words of a page.
     pub words: u32,
@@ -50,7 +50,7 @@ pub extern "C" fn pauseless_count(heap: &mut Handle, counts: &mut CountsOfC) -> 
     DONE
 }
 
-/// Returns the code of a verification: that the heap is sound, or that it is out of memory.
+/// Returns the code of a verification: the heap is sound, or it is out of memory.
 fn verify_code(alloc: Global, heap: &ManagedHeap) -> u32
     ensures { Verifies result }
 {
@@ -61,7 +61,7 @@ fn verify_code(alloc: Global, heap: &ManagedHeap) -> u32
     }
 }
 
-/// Verifies the heap in its current state: the code is that it is sound, by contract, or out of memory.
+/// Verifies the heap in its current state: the code is that it is sound, by contract, or that it is out of memory.
 #[unsafe(no_mangle)]
 pub extern "C" fn pauseless_verify(alloc: Global, heap: &mut Handle) -> u32
     ensures same { heap.new.slot.held ≡ heap.old.slot.held }

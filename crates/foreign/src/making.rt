@@ -31,7 +31,7 @@ pub struct SizesOfC {
     pub registers: u32,
     /// The global roots.
     pub globals: u32,
-    /// How many objects may be born.
+    /// The limit of births.
     pub births: u64,
 }
 
@@ -126,8 +126,8 @@ fn make_of(alloc: Global, config: Config) -> Result<Box<Held>, u32>
     }
 }
 
-/// Makes a heap of these sizes and layouts, which the handle owns then. The code is that of the first size that is
-/// out of its range; that the handle has a heap already; or out of memory.
+/// Makes a heap of these sizes and layouts, which the handle then owns. The code is that of the first size that is
+/// out of its range, that the handle has a heap already, or that it is out of memory.
 #[unsafe(no_mangle)]
 pub extern "C" fn pauseless_new(
     alloc: Global,

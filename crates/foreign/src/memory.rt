@@ -34,7 +34,7 @@ pub extern "C" fn pauseless_trim(heap: &mut Handle, frames: u32) -> u32
     DONE
 }
 
-/// Lets the memory of the heap follow what lives in it: from now on it is also collected if it uses `least` frames,
+/// Makes the memory of the heap follow its live objects: from now on it is also collected if it uses `least` frames
 /// and, after a collection, `growth` percent more than it used then; and memory beyond is released.
 #[tactic(auto, using(crate::proofs::Calling::kept))]
 #[unsafe(no_mangle)]

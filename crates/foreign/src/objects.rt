@@ -40,7 +40,7 @@ pub struct PolicyOfC {
 #[repr(C)]
 #[derive(Clone, Copy)]
 pub struct ObjectOfC {
-    /// How many objects were born before it.
+    /// How many objects were allocated before it.
     pub birth: u64,
     /// The number of its layout.
     pub layout: u32,
@@ -102,7 +102,7 @@ pub extern "C" fn pauseless_give_back(heap: &mut Handle, thread: u32) -> u32
     }
 }
 
-/// Makes an object in the thread's buffer. Fails as `Mutating::new_object` does.
+/// Allocates an object in the thread's buffer. Fails as `Mutating::new_object` does.
 #[tactic(auto, using(crate::proofs::Calling::stepped))]
 #[unsafe(no_mangle)]
 pub extern "C" fn pauseless_new_object(
@@ -122,7 +122,7 @@ pub extern "C" fn pauseless_new_object(
     }
 }
 
-/// Makes an object by the policy: during a collection in parts if it has a budget for these.
+/// Allocates an object by the policy: during a collection in parts if it has a budget for these.
 #[inline(always)]
 pub(crate) fn make_by(
     alloc: Global,
@@ -164,7 +164,7 @@ pub(crate) fn refill_by(
     answer
 }
 
-/// Makes an object by the policy, and fills it.
+/// Allocates an object by the policy, and fills it.
 #[inline(always)]
 pub(crate) fn make_with_by(
     alloc: Global,
@@ -192,7 +192,7 @@ pub(crate) fn make_with_by(
     }
 }
 
-/// Makes an object; if the thread's buffer has no space for it, `pauseless_refill` gets it one before. Fails as
+/// Allocates an object; if the thread's buffer has no space for it, `pauseless_refill` gets it one before. Fails as
 /// `Holding::make` does.
 #[tactic(auto, using(crate::proofs::Calling::on_held))]
 #[unsafe(no_mangle)]
@@ -212,7 +212,7 @@ pub extern "C" fn pauseless_make(
     make_tested(alloc, held, policy, thread, target, layout)
 }
 
-/// Makes an object, for which `pauseless_refill` gets a buffer if the thread's has no space, and fills it: stores
+/// Allocates an object, for which `pauseless_refill` gets a buffer if the thread's has no space, and fills it: stores
 /// registers in its first references, and writes its first data words. Fails as `Holding::make_with` does.
 #[tactic(auto, using(crate::proofs::Calling::on_held))]
 #[unsafe(no_mangle)]
@@ -283,7 +283,7 @@ fn look_refused(heap: &mut Handle, thread: u32, register: u32, object: &mut Obje
     }
 }
 
-/// Writes which object a register names. Fails as `Holding::object` does.
+/// Writes the object that a register refers to. Fails as `Holding::object` does.
 #[tactic(auto, using(crate::proofs::Calling::given))]
 #[unsafe(no_mangle)]
 pub extern "C" fn pauseless_look(

@@ -1,5 +1,4 @@
-//! Calls whose policy or percentage is tested first: if one is out of its range, the call fails, and nothing is
-//! done.
+//! Calls whose policy or percentage is tested first: if it is out of its range, the call fails, and nothing is done.
 
 ghost use Rattle.std.specs.Prelude.{◌≡◌};
 ghost use Rattle.foreign.specs.Policies.{MakesBy, MakesWithBy, RefillsBy, fault_of, percent_fault};
@@ -24,7 +23,7 @@ fn fault_of(held: &Held, policy: &PolicyOfC) -> Option<PolicyFault>
     given.fault(held.heap.heap().config())
 }
 
-/// Returns that a percentage is out of its range, if it is.
+/// Returns the fault of a percentage, if it is out of its range.
 #[inline(always)]
 pub(crate) fn percent_fault(percent: u32) -> Option<PolicyFault>
     ensures { result ≡ percent_fault percent }
@@ -36,7 +35,7 @@ pub(crate) fn percent_fault(percent: u32) -> Option<PolicyFault>
     }
 }
 
-/// Makes an object by a policy, if the policy is in its range.
+/// Allocates an object by a policy, if the policy is in its range.
 #[inline(always)]
 pub(crate) fn make_tested(
     alloc: Global,
@@ -57,7 +56,7 @@ pub(crate) fn make_tested(
     }
 }
 
-/// Makes an object by a policy, if the policy is in its range, and fills it.
+/// Allocates an object by a policy, if the policy is in its range, and fills it.
 #[inline(always)]
 pub(crate) fn make_with_tested(
     alloc: Global,

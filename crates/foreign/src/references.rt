@@ -18,7 +18,7 @@ use cycle::Mutating;
 use managed::{FieldLoad, LoadsFault, ManagedHeap};
 use std::alloc::Global;
 
-/// Returns the code of several loads of an object; and writes how many are done for C.
+/// Returns the code of several loads of an object, and writes for C how many are done.
 #[inline(always)]
 fn give_loads(
     heap: &ManagedHeap,
@@ -78,8 +78,8 @@ pub extern "C" fn pauseless_load(
     load_by_steps(heap, thread, target, object, field)
 }
 
-/// Loads several reference fields of an object into registers, each completely, in their order; and writes how many
-/// are done for C. Stops at the first load that fails, and fails as `Holding::read` does.
+/// Loads several reference fields of an object into registers, each completely, in their order, and writes for C how
+/// many are done. Stops at the first load that fails, and fails as `Holding::read` does.
 #[tactic(auto, using(crate::proofs::Calling::loaded_each))]
 #[unsafe(no_mangle)]
 pub extern "C" fn pauseless_loads(
@@ -260,7 +260,7 @@ fn same_refused(heap: &mut Handle, thread: u32, left: u32, right: u32, is_so: &m
     }
 }
 
-/// Writes whether two registers name the same object, or both none. Fails as `Mutating::same` does.
+/// Writes whether two registers refer to the same object, or are both null. Fails as `Mutating::same` does.
 #[tactic(auto, using(crate::proofs::Calling::looked))]
 #[unsafe(no_mangle)]
 pub extern "C" fn pauseless_same(

@@ -1,5 +1,5 @@
-//! The codes of steps that are rejected. Each is a function of its own, called last: so an export needs no stack
-//! space for a step, which it would set to zero before all else.
+//! The codes of steps that are rejected. Each is a function of its own, called last, so that an export needs no stack
+//! space for a step, which would be zeroed at its start.
 
 ghost use Rattle.std.specs.Prelude.{◌≡◌};
 ghost use Rattle.model.specs.declared.steps.Step.TheVariants as steps;

@@ -28,7 +28,7 @@ fn give_text(text: &[u8], room: &mut [u8])
 }
 
 /// Writes the report of a heap, in lines of ASCII text, to `text` as far as it fits, and its length in bytes to
-/// `length`. Fails if the handle has no heap, or out of memory; then nothing is written.
+/// `length`. Fails if the handle has no heap or if out of memory, and then writes nothing.
 #[unsafe(no_mangle)]
 pub extern "C" fn pauseless_report(
     alloc: Global,

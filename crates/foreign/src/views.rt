@@ -40,7 +40,8 @@ fn address_of(place: u64) -> Result<Addr, Refusal>
     }
 }
 
-/// Writes the place of the object that a register of a thread names. Fails as `viewing::places::register_at` does.
+/// Writes the place of the object that a register of a thread refers to. Fails as `viewing::places::register_at`
+/// does.
 #[tactic(auto, using(crate::proofs::Calling::given))]
 #[unsafe(no_mangle)]
 pub extern "C" fn pauseless_view_register(
@@ -64,7 +65,7 @@ pub extern "C" fn pauseless_view_register(
     }
 }
 
-/// Writes the place of the object that a global names. Fails as `viewing::places::global_at` does.
+/// Writes the place of the object that a global refers to. Fails as `viewing::places::global_at` does.
 #[tactic(auto, using(crate::proofs::Calling::given))]
 #[unsafe(no_mangle)]
 pub extern "C" fn pauseless_view_global(heap: &mut Handle, global: u32, place: &mut u64) -> u32
@@ -94,8 +95,8 @@ fn load_at(heap: &ManagedHeap, place: u64, field: u32) -> Result<Option<Addr>, R
     }
 }
 
-/// Writes the place of the object that a reference of an object names, by that object's place. Fails with `Null` if
-/// the place is 0, else as `viewing::places::reference_at` does.
+/// Writes the place of the object that a reference of an object refers to, by that object's place. Fails with `Null`
+/// if the place is 0, else as `viewing::places::reference_at` does.
 #[tactic(auto, using(crate::proofs::Calling::given))]
 #[unsafe(no_mangle)]
 pub extern "C" fn pauseless_view_load(
@@ -166,8 +167,7 @@ fn look_at(heap: &ManagedHeap, place: u64) -> Result<Object, Refusal>
     }
 }
 
-/// Writes which object is at a place. Fails with `Null` if the place is 0, else as `viewing::places::object_at`
-/// does.
+/// Writes the object at a place. Fails with `Null` if the place is 0, else as `viewing::places::object_at` does.
 #[tactic(auto, using(crate::proofs::Calling::given))]
 #[unsafe(no_mangle)]
 pub extern "C" fn pauseless_view_look(heap: &mut Handle, place: u64, object: &mut ObjectOfC) -> u32

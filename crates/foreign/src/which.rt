@@ -89,7 +89,7 @@ fn lacking(heap: &Heap, layout: u32, refs: usize) -> Number
     }
 }
 
-/// Returns whether one of these registers isn't there.
+/// Returns whether one of these registers doesn't exist.
 fn lacks_register(heap: &Heap, registers: &[u32]) -> bool
     ensures { result ≡ list_any (no_register heap.now) registers.now }
 {
@@ -180,7 +180,7 @@ fn no_thread(heap: &Heap, thread: u32) -> bool
     thread as usize >= heap.threads().len()
 }
 
-/// Returns which number names nothing if a register of a thread is looked up that isn't there.
+/// Returns which number names nothing if a register of a thread is looked up that doesn't exist.
 fn register_number(heap: &Heap, thread: u32) -> Number
     ensures { result ≡ register_number heap.now thread }
 {

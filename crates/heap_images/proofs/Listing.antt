@@ -9,7 +9,7 @@ use Rattle.std.proofs.lemmas.Option.{slice_get_within}
 use Rattle.std.proofs.lemmas.List.Elements.{filter-append}
 use Rattle.std.proofs.lemmas.List.FromFn.{map-range_with_len_more}
 
--- one number more comes behind the others
+-- a longer range has one number more at its end
 range_more : (a n : ℕ) → range_with_len a (suc n) ≡ range_with_len a n ++ (a + n) ∷ []
 range_more a zero = ap (λ m. m ∷ []) (is a)
   where
@@ -32,13 +32,13 @@ filtered_more p n = ap (λ m. filter p (range_with_len 0 m)) (is n) ∙ ap (filt
     same : (n : ℕ) → 0 + n ≡ n
     same n = omega arith
 
--- it is kept where it passes the test
+-- a number is kept if it passes the test
 pub one_kept : (p : ℕ → Bool) (n : ℕ) (kept now : List ℕ) → p n ≡ true → kept ≡ filter p (range_with_len 0 n)
     → now ≡ kept ++ n ∷ [] → now ≡ filter p (range_with_len 0 (n + 1))
 one_kept p n kept now e h k = k ∙ ap (λ xs. xs ++ n ∷ []) h
     ∙ ap (λ b. filter p (range_with_len 0 n) ++ cond b (n ∷ []) []) (sym e) ∙ sym (filtered_more p n)
 
--- and else left out
+-- else it is left out
 pub one_left_out : (p : ℕ → Bool) (n : ℕ) (kept : List ℕ) → p n ≡ false → kept ≡ filter p (range_with_len 0 n)
     → kept ≡ filter p (range_with_len 0 (n + 1))
 one_left_out p n kept e h = h ∙ sym (append-nil (filter p (range_with_len 0 n)))

@@ -1,5 +1,5 @@
-//! Images of heaps (ours): a heap's image is taken, and verified. What an image is, and when it is sound, is
-//! said in `verify`, which knows nothing of heaps.
+//! Images of heaps: a heap's image is taken, and verified. `verify`, which knows nothing of heaps, defines images and
+//! when one is sound.
 #![tactic(auto)]
 
 mod taking;
@@ -13,8 +13,8 @@ use std::alloc::{AllocError, Global};
 pub use taking::image_of;
 use verify::{Verdict, verify_image};
 
-/// Whether a heap is sound as it stands, or else its first fault (ours): an image is taken, and
-/// verified. Its time is linear in the words of all frames and pages. Fails only by memory.
+/// Returns whether a heap is sound, or else its first fault: takes its image, and verifies that. Its time is linear
+/// in the words of all frames and pages. Fails only if out of memory.
 pub fn verify(alloc: Global, heap: &Heap) -> Result<Verdict, AllocError>
     ensures { IfOk result (VerdictIs (image_of heap.now)) }
 {

@@ -1,4 +1,4 @@
-//! The image of a heap is taken (ours).
+//! Takes the image of a heap.
 
 ghost use Rattle.std.specs.Prelude.{◌≡◌, ◌<◌, ◌≤◌, IfOk, map, length, slice_get};
 ghost use Rattle.model.specs.Bits.{of_page};
@@ -15,7 +15,7 @@ use std::alloc::{AllocError, Global};
 use thread_records::Thread;
 use verify::{Image, PageImage, Words};
 
-/// The numbers that stand for words.
+/// Returns the bits of words. Fails only if out of memory.
 fn numbers(alloc: Global, words: &[Word]) -> Result<Words, AllocError>
     ensures { IfOk result (λ v. v ≡ map bits_of words.now) }
 {
@@ -24,7 +24,7 @@ fn numbers(alloc: Global, words: &[Word]) -> Result<Words, AllocError>
     })
 }
 
-/// The registers of each thread.
+/// Returns the registers of each thread. Fails only if out of memory.
 fn registers(alloc: Global, threads: &[Thread]) -> Result<Vec<Words>, AllocError>
     ensures { IfOk result (λ v. v.items ≡ map registers_of threads.now) }
 {
@@ -35,7 +35,7 @@ fn registers(alloc: Global, threads: &[Thread]) -> Result<Vec<Words>, AllocError
     Ok(registers)
 }
 
-/// The word so far of a thread's load, if it has one that isn't finished.
+/// Returns the current reference of a thread's load, if the thread has an open barrier.
 fn load(thread: &Thread) -> Option<u64>
     ensures { result ≡ load_of thread.now }
 {
@@ -45,14 +45,14 @@ fn load(thread: &Thread) -> Option<u64>
     }
 }
 
-/// The word so far of each thread's load.
+/// Returns the current reference of each thread's load. Fails only if out of memory.
 fn loads(alloc: Global, threads: &[Thread]) -> Result<Vec<Option<u64>>, AllocError>
     ensures { IfOk result (λ v. v.items ≡ map load_of threads.now) }
 {
     threads.iter().map(|thread| load(thread)).collect(alloc)
 }
 
-/// The numbers that stand in globals.
+/// Returns the bits of globals. Fails only if out of memory.
 fn globals(alloc: Global, globals: &[Root]) -> Result<Vec<u64>, AllocError>
     ensures { IfOk result (λ v. v.items ≡ map (λ g. bits_of g.word) globals.now) }
 {
@@ -62,7 +62,7 @@ fn globals(alloc: Global, globals: &[Root]) -> Result<Vec<u64>, AllocError>
         .collect(alloc)
 }
 
-/// The memory of each frame.
+/// Returns the memory of each frame. Fails only if out of memory.
 fn frames(alloc: Global, frames: &Frames) -> Result<Vec<Words>, AllocError>
     ensures { IfOk result (λ v. v.items ≡ frames.now) }
 {
@@ -74,14 +74,14 @@ fn frames(alloc: Global, frames: &Frames) -> Result<Vec<Words>, AllocError>
     Ok(memory)
 }
 
-/// Whether a frame is there, and free.
+/// Returns whether a frame exists and is free.
 fn is_free(store: &Store, frame: u32) -> bool
     ensures { result ≡ is_free (slice_get store.now.owners frame) }
 {
     matches!(store.owners().get(frame as usize), Some(None))
 }
 
-/// The numbers of the free frames, of so many frames.
+/// Returns the numbers of the free frames among the first `count`. Fails only if out of memory.
 #[tactic(auto, using(crate::proofs::Listing::one_kept, crate::proofs::Listing::one_left_out))]
 fn free_frames(alloc: Global, store: &Store, count: u32) -> Result<Vec<u32>, AllocError>
     requires { length store.now.owners ≡ count }
@@ -96,7 +96,7 @@ fn free_frames(alloc: Global, store: &Store, count: u32) -> Result<Vec<u32>, All
     Ok(free)
 }
 
-/// Where objects start on a page, by its number from 1.
+/// Returns the start bitmap of a page, by its number from 1. Fails only if out of memory.
 #[tactic(auto, using(model::proofs::OfPages::of_page_none, model::proofs::OfPages::of_page_some))]
 fn starts(alloc: Global, heap: &Heap, number: u32) -> Result<Row, AllocError>
     requires { 0 < number }
@@ -108,7 +108,7 @@ fn starts(alloc: Global, heap: &Heap, number: u32) -> Result<Row, AllocError>
     }
 }
 
-/// The side array of a page, by its number from 1.
+/// Returns the forwarding table of a page, by its number from 1. Fails only if out of memory.
 #[tactic(auto, using(model::proofs::OfPages::of_page_none, model::proofs::OfPages::of_page_some))]
 fn side(alloc: Global, heap: &Heap, number: u32) -> Result<Vec<Forwarding>, AllocError>
     requires { 0 < number }
@@ -120,7 +120,7 @@ fn side(alloc: Global, heap: &Heap, number: u32) -> Result<Vec<Forwarding>, Allo
     }
 }
 
-/// The frame of a page, by its number.
+/// Returns the frame of a page, by its number.
 fn frame(store: &Store, number: u32) -> Option<u32>
     ensures { result ≡ frame_in (page_at store.now number) }
 {
@@ -128,7 +128,7 @@ fn frame(store: &Store, number: u32) -> Option<u32>
     record.frame
 }
 
-/// The image of a page, by its number from 1.
+/// Returns the image of a page, by its number from 1. Fails only if out of memory.
 fn page(alloc: Global, heap: &Heap, number: u32) -> Result<PageImage, AllocError>
     requires { 0 < number }
     ensures { IfOk result (λ p. p ≡ page_data heap.now number) }
@@ -141,7 +141,7 @@ fn page(alloc: Global, heap: &Heap, number: u32) -> Result<PageImage, AllocError
     })
 }
 
-/// The images of all pages that have a record.
+/// Returns the images of all pages that have a record. Fails only if out of memory.
 #[tactic(auto, using(crate::proofs::Listing::mapped_more))]
 fn pages(alloc: Global, heap: &Heap) -> Result<Vec<PageImage>, AllocError>
     ensures { IfOk result (λ v. v.items ≡ pages_of heap.now) }
@@ -155,8 +155,8 @@ fn pages(alloc: Global, heap: &Heap) -> Result<Vec<PageImage>, AllocError>
     Ok(pages)
 }
 
-/// The image of a heap as it stands (ours): all that can be reached from it is in the image, and no part of the
-/// heap is lent. Fails only by memory.
+/// Returns the image of a heap: a copy of its memory, its forwarding tables and its roots. Fails only if out of
+/// memory.
 #[tactic(auto, unfolding(verify::specs::Pictures::image_of))]
 pub fn image_of(alloc: Global, heap: &Heap) -> Result<Image, AllocError>
     ensures { IfOk result (λ image. image ≡ image_of heap.now) }

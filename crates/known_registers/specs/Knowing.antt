@@ -24,7 +24,7 @@ pub record LeavesOwn (m : MutatorState) (s : KnowingState) : Type 0 where
 abbrev pub thread_of : KnowingState → ℕ
 thread_of s = s.thread
 
--- the data under the lock: the heap, and how many threads have got a token
+-- the data under the lock: the heap, and how many threads have a token
 pub record DeskState : Type 0 where
   pub heap : HeapState
   pub dealt : ℕ

@@ -28,7 +28,7 @@ impl<N: CellName> KnownHeap<N> {
         }
     }
 
-    /// Returns the heap, which nobody shares any more.
+    /// Returns the heap, which is no longer shared.
     pub fn into_heap(self) -> ManagedHeap
         ensures { Promises result }
     {

@@ -1,4 +1,4 @@
--- Actors and whole orders: what is read is written so, and what is written so is read.
+-- Actors and complete orders: what is read is spelled so, and what is spelled so is read.
 use Rattle.std.proofs.Common.{◌≡◌, ℕ, Bool, true, false, cond, List, [], ◌∷◌, ◌++◌}
 use Rattle.std.proofs.Common.{Some, refl, sym, ap, subst, ◌∙◌, arith, inl, inr, append-nil}
 use Rattle.std.specs.Prelude.{Ok, ◌==◌, find, Option, None}
@@ -28,7 +28,7 @@ use Rattle.parser.proofs.Operands.{AreFew, bounds_in, operands_ok, operands_agai
 
 -- ---- verbs
 
--- the first verb of a list whose word this is
+-- the first verb of a list that has this word
 found_in : (w : List ℕ) (v : Verb) (vs : List Verb) → find (λ x. bytes_eq w (row_of x).text) vs ≡ Some v
     → w ≡ (row_of v).text
 found_in w v [] h = absurd cc
@@ -55,7 +55,7 @@ verb_again v = grind arith
 pub verb_met : (w : List ℕ) (v : Verb) → bytes_eq w (row_of v).text ≡ true → Some v ≡ verb_of w
 verb_met w v same = sym (ap verb_of ((bytes_eq-Decides w (row_of v).text).0 same) ∙ verb_again v)
 
--- the verb that a word is for an actor is one that the actor does
+-- the verb of a word, for an actor, is one that the actor does
 pub actor_verb : (actor : Actor) (w : List ℕ) (v : Verb) → verb_in actor w ≡ Some v
     → (does actor v ≡ true) × (w ≡ (row_of v).text)
 actor_verb actor w v h = by_verb (verb_of w) refl h
@@ -75,7 +75,7 @@ actor_verb actor w v h = by_verb (verb_of w) refl h
 
 -- ---- orders
 
--- an order's name, its operands, and no more words
+-- an order's verb, its operands, and no more words
 whole_order : (x : List (List ℕ)) (w text : List ℕ) (y rest operands : List (List ℕ)) → x ≡ w ∷ y → w ≡ text
     → y ≡ operands ++ rest → rest ≡ [] → x ≡ text ∷ operands
 whole_order x w text y rest operands p q r s =
@@ -126,7 +126,7 @@ order_again sizes line actor at o few own is h =
 
 -- ---- actors
 
--- an actor that is there is the first word
+-- an actor that exists is the first word
 pub record IsActorAt (sizes : Sizes) (line : List ℕ) (a : Actor × ℕ) : Type 0 where
   pub spelled : words_from line 0 ≡ actor_word a.0 ∷ words_from line a.1
   pub there : IsActor (config_of sizes []) a.0

@@ -1,4 +1,4 @@
--- An address in a word: what is read is written so, and what is written so is read.
+-- An address in a word: what is read is spelled so, and what is spelled so is read.
 use Rattle.std.proofs.Common.{◌≡◌, ℕ, ◌+◌, ◌^◌, ◌<◌, ◌≤◌, Bool, true, false, cond, nat_lt, List, [], ◌∷◌}
 use Rattle.std.proofs.Common.{◌++◌, length, take, drop, Option, Some, None, position, refl, sym, ap, subst, ◌∙◌, arith}
 use Rattle.std.proofs.Common.{length-append}
@@ -25,7 +25,7 @@ use Rattle.parser.proofs.Places.{words_from, Reads, bind_ok, or_flaw_ok, word_ok
 abbrev point : ℕ → Bool
 point b = b == 46
 
--- a word with a point at this place is its parts with the point between them
+-- a word with a period at this place is its parts with the period between them
 parts_joined : (word : List ℕ) (i : ℕ) → position point word ≡ Some i
     → word ≡ take i word ++ (46 ∷ drop (i + 1) word)
 parts_joined word i h =
@@ -37,7 +37,7 @@ parts_joined word i h =
     sym (join_with_byte-slice_split 46 word) ∙ ap (join_with_byte 46) cut
     ∙ ap (λ (x : List ℕ). take i word ++ (46 ∷ x)) joined
 
--- the two parts are the word, with a point between them
+-- the two parts with a period between them are the word
 pub parts_are : (word : List ℕ) (parts : List ℕ × List ℕ) → point_parts word ≡ Some parts
     → word ≡ parts.0 ++ (46 ∷ parts.1)
 unfolding point_parts
@@ -50,7 +50,7 @@ parts_are word parts h = by_place (position point word) refl h
         subst (λ (x : List ℕ × List ℕ). word ≡ x.0 ++ (46 ∷ x.1))
         (same_Some (take i word, drop (i + 1) word) parts k) (parts_joined word i e)
 
--- no byte is a point
+-- no byte is a period
 abbrev HasNoPoint : List ℕ → Type 0
 HasNoPoint bytes = AllByRecursion (λ b. point b ≡ false) bytes
 
@@ -76,7 +76,7 @@ at_point front back h =
     lt-ltb (length front) (length (front ++ (46 ∷ back))) (omega arith) in
     ap (λ (k : ℕ). cond (nat_lt k (length (front ++ (46 ∷ back)))) (Some k) None) at ∙ rw inside refl
 
--- parts with a point between them, of which the first has none, are a word's parts
+-- parts with a period between them, of which the first has none, are a word's parts
 parts_again : (front back : List ℕ) → HasNoPoint front → point_parts (front ++ (46 ∷ back)) ≡ Some (front, back)
 unfolding point_parts
 parts_again front back h =
@@ -96,13 +96,13 @@ number_again n = omega arith
 
 -- ---- an address
 
--- an address, with an offset below so many words, is the word at a place
+-- an address, with an offset below a number of words, is the word at a place
 pub record IsAddressAt (line : List ℕ) (at words : ℕ) (v : ℕ × ℕ) : Type 0 where
   pub spelled : words_from line at ≡ address_word (page_in v.0) (offset_in v.0) ∷ words_from line v.1
   pub fits : v.0 < 2 ^ 64
   pub within : offset_in v.0 < words
 
--- what is read of two parts
+-- what is read from two parts
 record IsPair (parts : List ℕ × List ℕ) (after words : ℕ) (v : ℕ × ℕ) : Type 0 where
   page : decimal (page_in v.0) ≡ parts.0
   offset : decimal (offset_in v.0) ≡ parts.1

@@ -1,4 +1,4 @@
--- Two lines that are alike up to a place, and what is read of them up to there.
+-- Two lines that agree up to a place, and what is read from them up to there.
 use Rattle.std.proofs.Common.{◌≡◌, ◌≢◌, ℕ, ◌+◌, ◌<◌, ◌≤◌, List, [], ◌∷◌}
 use Rattle.std.proofs.Common.{◌++◌, length, take, drop, Some, refl, sym, ap, subst, ◌∙◌, arith}
 use Rattle.std.proofs.Common.{inl, inr, append-nil, append_assoc, length-append}
@@ -18,9 +18,9 @@ use Rattle.parser.proofs.Lists.{all_from}
 use Rattle.parser.proofs.WordPlaces.{HasNoSpace, cut_by_space, word_place, IsBehindWord, IsPlace, IsWordAt}
 use Rattle.parser.proofs.WordPlaces.{finds_word, none_past, behind_word}
 
--- ---- two lines that are alike
+-- ---- two lines that agree
 
--- Two lines are alike up to a place: the words that begin before it are the same in both.
+-- Two lines agree up to a place: the words that begin before it are the same in both.
 pub record AreAlike (n : ℕ) (line other : List ℕ) : Type 0 where
   pub words : (at : ℕ) → at < n → word_at line at ≡ word_at other at
   pub within : (at : ℕ) → at < n → at ≤ length line
@@ -30,7 +30,7 @@ pub record AreAlike (n : ℕ) (line other : List ℕ) : Type 0 where
   pub byte : first_byte line ≡ first_byte other
   pub idle : is_idle line ≡ is_idle other
 
--- a line is alike to itself
+-- a line agrees with itself
 pub alike_self : (line : List ℕ) → AreAlike 0 line line
 alike_self line = record {
   words = λ at h. refl;
@@ -46,7 +46,7 @@ end_before : (rest more : List ℕ) → IsWordEnd rest → IsWordEnd (rest ++ 32
 end_before rest more (inl none) = inr (more, ap (λ (x : List ℕ). x ++ 32 ∷ more) none)
 end_before rest more (inr after) = inr (after.0 ++ 32 ∷ more, ap (λ (x : List ℕ). x ++ 32 ∷ more) after.1)
 
--- the word at a place before a space, whatever stands behind that
+-- the word at a place before a space doesn't depend on what follows
 spaced_words : (front : List ℕ) (at : ℕ) → at ≤ length front
     → (w : List ℕ × ℕ) × ((more : List ℕ) → word_at (front ++ 32 ∷ more) at ≡ Some w)
 spaced_words front at within =
@@ -68,7 +68,7 @@ same_idle : (front a b : List ℕ) → is_idle (front ++ 32 ∷ a) ≡ is_idle (
 same_idle [] a b = refl
 same_idle (x ∷ xs) a b = refl
 
--- lines that begin with the same bytes and a space are alike up to there
+-- lines that begin with the same bytes and a space agree up to there
 pub alike_spaced : (front a b : List ℕ) → AreAlike (length front + 1) (front ++ 32 ∷ a) (front ++ 32 ∷ b)
 unfolding first_word
 alike_spaced front a b =
@@ -97,17 +97,17 @@ pub record IsFaultAt (line : List ℕ) (fault : Flaw) : Type 0 where
   pub column : fault.column ≡ length front + 1
   pub wrong : IsWrongWord fault.kind front word
 
--- what is read ends behind a word, and a fault stands at one
+-- a value ends after a word, and a fault is at one
 abbrev pub IsPlaced : {A : Type 0} → List ℕ → (A → ℕ) → Result A Flaw → Type 0
 IsPlaced line place (Ok x) = IsBehindWord line (place x)
 IsPlaced line place (Err f) = IsFaultAt line f
 
--- what is read ends behind a place, and a fault stands there or behind it
+-- a value ends after a place, and a fault is there or later
 abbrev pub IsLate : {A : Type 0} → (A → ℕ) → ℕ → Result A Flaw → Type 0
 IsLate place n (Ok x) = n ≤ place x
 IsLate place n (Err f) = n < f.column
 
--- two lines that are alike up to n are read alike from a place on, up to n
+-- two lines that agree up to n are read with the same result from a place on, up to n
 pub record IsReadAlike {A : Type 0} (line : List ℕ) (place : A → ℕ) (n at : ℕ) (r other : Result A Flaw) : Type 0 where
   pub same : (r ≡ other) ⊎ IsLate place n r
   pub late : n ≤ at → IsLate place n r
@@ -137,7 +137,7 @@ pub then_placed : {A B : Type 0} (line : List ℕ) (place : A → ℕ) (end : B 
 then_placed line place end n (Ok x) f g h k = (k x).placed h
 then_placed line place end n (Err d) f g h k = h
 
--- one step behind another
+-- one step after another
 pub then_alike : {A B : Type 0} (line : List ℕ) (place : A → ℕ) (end : B → ℕ) (n at : ℕ) (r other : Result A Flaw)
     (f g : A → Result B Flaw) → IsReadAlike line place n at r other
     → ((x : A) → IsReadAlike line end n (place x) (f x) (g x)) → IsReadAlike line end n at (r >>= f) (other >>= g)
@@ -147,7 +147,7 @@ then_alike line place end n at r other f g h k = record {
   placed = λ behind. then_placed line place end n r f g (h.placed behind) k;
 }
 
--- a result that needs no more of the line
+-- a result that reads no more of the line
 pub done_alike : {A : Type 0} (line : List ℕ) (place : A → ℕ) (n at : ℕ) (x : A) → place x ≡ at
     → IsReadAlike line place n at (Ok x) (Ok x)
 done_alike line place n at x e =
@@ -155,13 +155,13 @@ done_alike line place n at x e =
 
 -- ---- one word
 
--- What is read of a word ends behind it, and a fault stands at it.
+-- A value of a word ends after it, and a fault is at it.
 abbrev pub IsJudged : {A : Type 0} → (A → ℕ) → ℕ → List ℕ × ℕ → Result A Flaw → Type 0
 IsJudged place at w (Ok x) = place x ≡ w.1
 IsJudged place at w (Err f) =
     (f.column ≡ at + 1) × ((front : List ℕ) → length front ≡ at → IsWrongWord f.kind front w.0)
 
--- one word that is read alike in two lines
+-- one word that is read with the same result in two lines
 pub record IsWordAlike {A : Type 0} (line : List ℕ) (place : A → ℕ) (n at : ℕ) (r other : Result A Flaw) : Type 0 where
   pub early : at < n → r ≡ other
   pub late : n ≤ at → IsLate place n r
@@ -194,7 +194,7 @@ word_inside line at w is =
     let at_is = is.length_is in
     omega arith
 
--- the bytes before a place where a word may stand are none, or end in a space
+-- the bytes before a place where a word may begin are empty, or end in a space
 word_start : (line : List ℕ) (at : ℕ) (w : List ℕ × ℕ) (is : IsWordAt line at w) → IsPlace line at
     → IsWordStart is.front
 word_start line at w is (inl front) = inl (no_bytes is.front (is.length_is ∙ front))
@@ -306,7 +306,7 @@ word_placed line place at kind judge judged missing p =
           (judged_placed line place at found.w (judge found.w) (judged found.w) found.is p)
     ]
 
--- a word that has to be there is read alike, however it is judged
+-- a required word is read with the same result, whatever it is read as
 pub one_word : {A : Type 0} (n : ℕ) (line other : List ℕ) (k : AreAlike n line other) (place : A → ℕ) (at : ℕ)
     (kind : FaultKind) (judge : List ℕ × ℕ → Result A Flaw) → ((w : List ℕ × ℕ) → IsJudged place at w (judge w))
     → IsWrongWord kind line []
@@ -322,7 +322,7 @@ pub bind_assoc : {A B C : Type 0} (r : Result A Flaw) (f : A → Result B Flaw) 
 bind_assoc (Ok x) f g = refl
 bind_assoc (Err d) f g = refl
 
--- the same where another step judges the word too
+-- the same if another step also reads the word
 pub one_word_then : {A B : Type 0} (n : ℕ) (line other : List ℕ) (k : AreAlike n line other) (place : B → ℕ) (at : ℕ)
     (kind : FaultKind) (judge : List ℕ × ℕ → Result A Flaw) (next : A → Result B Flaw)
     → ((w : List ℕ × ℕ) → IsJudged place at w (judge w >>= next)) → IsWrongWord kind line []

@@ -1,4 +1,4 @@
--- Orders and lines that are alike are read and taken alike, and a line's fault stands at a word of it.
+-- Orders and lines that agree are read with the same result, and a line's fault is at a word of it.
 use Rattle.std.proofs.Common.{◌≡◌, ℕ, ◌+◌, Bool, true, false, cond, List, [], ◌∷◌, length, Option, Some, None, refl}
 use Rattle.std.proofs.Common.{ap, subst, ◌≢◌, ◌≤◌, ◌*◌, ◌^◌, nat_lt, ◌++◌, sym, arith, inl, inr}
 use Rattle.std.specs.Prelude.{Result, Ok, Err, ◌==◌, ◌||◌, not, nat_le, ◌&&◌, ◌⊎◌, codes}
@@ -39,7 +39,7 @@ use Rattle.parser.proofs.WordPlaces.{IsBehindWord, IsWordAt, finds_word, behind_
 
 -- ---- names
 
--- what is wrong where a name's number isn't there
+-- the fault if a name's number is too large
 abbrev pub IsAbsent : ℕ → ℕ → FaultKind → Type 0
 IsAbsent at letter missing = (front word digits : List ℕ) → length front ≡ at → word ≡ letter ∷ digits
     → is_number digits ≡ true → IsWrongWord missing front word
@@ -67,7 +67,7 @@ judge_name place at letter count missing (b ∷ bs) after next absent h =
     judge_name_by place at letter missing b bs after next absent h (not (b == letter) || not (is_number bs))
     (nat_le count (capped_from 0 bs)) refl
 
--- a register, a thread and a worker that isn't there
+-- a register, a thread and a worker that doesn't exist
 pub no_register : (at : ℕ) → IsAbsent at 114 kinds.NoSuchRegister
 no_register at front word digits size is number = (digits, (is, number))
 
@@ -77,7 +77,7 @@ no_thread at front word digits size is number = inl (digits, (is, number))
 pub no_worker : IsAbsent 0 119 kinds.NoSuchActor
 no_worker front word digits size is number = inr (no_bytes front size, (digits, (is, number)))
 
--- a name of which more is asked
+-- a name that must meet a further condition
 pub name_then : {B : Type 0} (n : ℕ) (line other : List ℕ) (k : AreAlike n line other) (place : B → ℕ)
     (at letter count : ℕ) (missing : FaultKind) (next : ℕ × ℕ → Result B Flaw) → IsAbsent at letter missing
     → ((w : List ℕ × ℕ) (x : ℕ × ℕ) → x.1 ≡ w.1 → IsJudged place at w (next x))
@@ -95,7 +95,7 @@ bind_ok_is (Err d) = refl
 
 -- ---- addresses
 
--- how a word is judged that has to be an address
+-- the result for a word that is required to be an address
 abbrev pub judged_address : ℕ → ℕ → List ℕ × ℕ → Result (ℕ × ℕ) Flaw
 judged_address at words w =
     or_flaw (point_parts w.0) (flaw at kinds.UnknownWord) >>= (λ parts. address_in parts w.1 at words)
@@ -144,7 +144,7 @@ judge_verb : (at : ℕ) (w : List ℕ × ℕ) (o : Option Verb)
 judge_verb at w None = (refl, λ front size. tt)
 judge_verb at w (Some verb) = refl
 
--- what stands behind an order's verb
+-- what follows an order's verb
 abbrev order_behind : Sizes → List ℕ → Verb × ℕ → Result Order Flaw
 order_behind sizes line verb =
     operands_at sizes line verb.1 verb.0 >>= (λ order. end_at line order.1 >>= (λ u. Ok order.0))
@@ -216,11 +216,11 @@ module _ (n : ℕ) (line other : List ℕ) (k : AreAlike n line other) (sizes : 
       (subst (λ (r : Result Order Flaw). AlikeToEnd n line other k at r ((read other >>= judge)
       >>= order_behind sizes other)) (verb_first (read line) (verb_in actor) f (order_behind sizes line)) both)
 
--- a line that is taken is read to its end
+-- a line that is accepted is read to its end
 abbrev line_end : List ℕ → ReadSoFar → ℕ
 line_end line t = length line + 1
 
--- two lines that are alike up to n are taken alike, and a fault stands at a word
+-- two lines that agree up to n are accepted with the same result, and a fault is at a word
 pub record IsTakenAlike (line : List ℕ) (n : ℕ) (r other : Result ReadSoFar Flaw) : Type 0 where
   pub same : (r ≡ other) ⊎ IsLate (λ (t : ReadSoFar). length line + 1) n r
   pub placed : IsPlaced line (λ (t : ReadSoFar). length line + 1) r
@@ -255,7 +255,7 @@ judge_full : (actor : Actor) (w : List ℕ × ℕ) (after : ℕ) → after ≡ w
 judge_full actor w after e true = (refl, λ front size. no_bytes front size)
 judge_full actor w after e false = e
 
--- an actor, where no command more may be taken
+-- an actor, if no more commands are allowed
 abbrev checked : Bool → Actor × ℕ → Result (Actor × ℕ) Flaw
 checked full actor = cond full (Err (flaw 0 kinds.TooManyCommands)) (Ok actor)
 
@@ -277,12 +277,12 @@ two_steps line n a b f g h =
     (subst (λ (r : Result (Actor × ℕ) Flaw). IsWordAlike line (λ (x : Actor × ℕ). x.1) n 0 r (b >>= (λ x. f x >>= g)))
     (sym (bind_assoc a f g)) h)
 
--- what stands behind an actor
+-- what follows an actor
 abbrev order_for : ReadSoFar → Sizes → List ℕ → Actor × ℕ → Result ReadSoFar Flaw
 order_for r sizes line actor = order_at sizes line actor.0 actor.1
     >>= (λ order. Ok (with_command r r.turns (record { actor = actor.0; order = order })))
 
--- before layout lines, where nothing has begun, only a layout line is taken
+-- before layout lines, when nothing has begun, only a layout line is accepted
 no_layout : (r : ReadSoFar) (word : List ℕ) → (r.begun ≡ true → 1 ≤ length r.layouts) → (length r.layouts == 0) ≡ true
     → (bytes_eq word (codes "layout") && not r.begun && nat_lt (length r.layouts) MOST_LAYOUTS) ≡ false
     → word ≢ codes "layout"
@@ -303,7 +303,7 @@ no_layout r word started none h is = by_begun r.begun refl
 -- ---- two lines
 
 module _ (n : ℕ) (line other : List ℕ) (k : AreAlike n line other) where
-  -- what is done with the first word is done with that of both lines
+  -- a result for the first word of one line is the result for that of the other
   by_first : (r : Result ReadSoFar Flaw)
       (f : List ℕ × ℕ → Result ReadSoFar Flaw) → IsTakenAlike line n r (f (first_word line))
       → IsTakenAlike line n r (f (first_word other))
@@ -480,7 +480,7 @@ module _ (n : ℕ) (line other : List ℕ) (k : AreAlike n line other) where
   idle_by r started true = record { same = inl refl; placed = inl refl }
   idle_by r started false = after_taken r r.sizes started
 
-  -- lines that are alike are taken alike
+  -- lines that agree are accepted with the same result
   pub line_taken : (r : ReadSoFar)
       → (r.begun ≡ true → 1 ≤ length r.layouts) → IsTakenAlike line n (line_in r line) (line_in r other)
   unfolding line_in

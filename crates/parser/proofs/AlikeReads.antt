@@ -1,4 +1,4 @@
--- Numbers, names, headings and orders are read alike in lines that are alike.
+-- Numbers, names, headings and orders are read with the same result in lines that agree.
 use Rattle.std.proofs.Common.{◌≡◌, ◌≢◌, ℕ, zero, suc, ◌+◌, ◌<◌, ◌≤◌, Bool, true, false, cond, nat_lt, List, [], ◌∷◌}
 use Rattle.std.proofs.Common.{length, Some, refl, sym, ap, subst, ◌∙◌, arith, inl, inr}
 use Rattle.std.specs.Prelude.{Result, Ok, Err, ◌||◌, not, nat_le, codes}
@@ -24,7 +24,7 @@ use Rattle.parser.proofs.Alike.{fault_at_word}
 use Rattle.parser.specs.Orders.{numbers_by, numbers_at}
 use Rattle.parser.proofs.ManyNumbers.{by_past, by_first, numbers_enough}
 
--- ---- how words are judged
+-- ---- the result for words
 
 pub judge_fixed : (at : ℕ) (text : List ℕ) (w : List ℕ × ℕ) (b : Bool)
     → IsJudged (λ (x : ℕ). x) at w (cond b (Ok w.1) (Err (flaw at kinds.UnknownWord)))
@@ -96,13 +96,13 @@ end_early line at within = let test : nat_le at (length line) ≡ true = grind (
 
 -- ---- limits and layouts
 
--- a limit whose name stands at its place is a number behind that name
+-- if a limit's name is at its place, the limit is the number after it
 pub limit_named : (line : List ℕ) (at : ℕ) (name : List ℕ) (most : ℕ) (w : List ℕ × ℕ) → word_at line at ≡ Some w
     → bytes_eq w.0 name ≡ true → limit_at line at name most ≡ field_at line at name 1 most
 unfolding limit_at field_at fixed_at word_or
 limit_named line at name most w h same = rw (h, same) refl
 
--- it is left out where another word stands there, or none
+-- it is omitted if another word is there, or none
 pub limit_other : (line : List ℕ) (at : ℕ) (name : List ℕ) (most : ℕ) (w : List ℕ × ℕ) → word_at line at ≡ Some w
     → bytes_eq w.0 name ≡ false → limit_at line at name most ≡ Ok (most, at)
 unfolding limit_at
@@ -123,7 +123,7 @@ test_first {A} {B} (Ok x) test f next = by_test (test x)
     by_test true = refl
     by_test false = refl
 
--- what stands behind two numbers of a layout
+-- what follows two numbers of a layout
 abbrev layout_of : ℕ → ℕ → Layout
 layout_of refs nums = record { refs = refs; nums = nums }
 
@@ -133,14 +133,14 @@ layout_end line refs nums = end_at line nums.1 >>= (λ u. Ok (layout_of refs num
 -- ---- two lines
 
 module _ (n : ℕ) (line other : List ℕ) (k : AreAlike n line other) where
-  -- what is read of both lines from a place on, up to another or to the line's end
+  -- what is read from both lines from a place on, up to another or to the line's end
   abbrev pub Alike : {A : Type 0} → ℕ → Result (A × ℕ) Flaw → Result (A × ℕ) Flaw → Type 0
   Alike {A} at r s = IsReadAlike line (λ (x : A × ℕ). x.1) n at r s
 
   abbrev pub AlikeToEnd : {A : Type 0} → ℕ → Result A Flaw → Result A Flaw → Type 0
   AlikeToEnd {A} at r s = IsReadAlike line (λ (x : A). length line + 1) n at r s
 
-  -- one reader behind another
+  -- one reader after another
   pub next_alike : {A B : Type 0} (at : ℕ) (r s : Result (A × ℕ) Flaw) (f g : A × ℕ → Result (B × ℕ) Flaw)
       → Alike at r s → ((x : A × ℕ) → Alike x.1 (f x) (g x)) → Alike at (r >>= f) (s >>= g)
   next_alike {A} {B} at r s f g = then_alike line (λ (x : A × ℕ). x.1) (λ (x : B × ℕ). x.1) n at r s f g
@@ -181,7 +181,7 @@ module _ (n : ℕ) (line other : List ℕ) (k : AreAlike n line other) where
       (in_range (capped_from 0 w.0) w.1 at low high)) (λ w. judge_number at low high w (is_number w.0)
       (nat_lt (capped_from 0 w.0) low || nat_lt high (capped_from 0 w.0)) refl) no_number)
 
-  -- a number of which more is asked
+  -- a number that must meet a further condition
   number_then : (at low high : ℕ) (next : ℕ × ℕ → Result (ℕ × ℕ) Flaw) → ((w : List ℕ × ℕ) (x : ℕ × ℕ) → x.1 ≡ w.1
       → is_number w.0 ≡ true → IsJudged (λ (x : ℕ × ℕ). x.1) at w (next x))
       → Alike at (number_at line at low high >>= next) (number_at other at low high >>= next)
@@ -209,7 +209,7 @@ module _ (n : ℕ) (line other : List ℕ) (k : AreAlike n line other) where
         placed = end_placed line at;
       }) (λ u. done_alike line (λ (x : A). length line + 1) n (length line + 1) x refl)
 
-  -- what is read as something that is read alike, of the other line where the place is early
+  -- the result is that of a reader that agrees, for the other line only if the place is early
   alike_by : {A : Type 0} (at : ℕ) (r s p q : Result (A × ℕ) Flaw) → r ≡ p → (at < n → s ≡ q) → Alike at p q
       → Alike at r s
   alike_by {A} at r s p q e d h =
@@ -227,7 +227,7 @@ module _ (n : ℕ) (line other : List ℕ) (k : AreAlike n line other) where
         placed = λ spot. subst (IsPlaced line place) (sym e) (h.placed spot);
       }
 
-  -- numbers, so many at most in both lines
+  -- numbers, at most `most` in both lines
   by_alike : (most at : ℕ) → Alike at (numbers_by most line at) (numbers_by most other at)
   unfolding numbers_by
   by_alike zero at = found_alike [] at

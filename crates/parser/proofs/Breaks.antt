@@ -1,4 +1,4 @@
--- Where operands and orders break off, the words before are the first ones of some operands and orders.
+-- When operands and orders break off at a fault, the words before it begin some operands and orders.
 use Rattle.std.proofs.Common.{◌≡◌, ℕ, zero, suc, ◌+◌, ◌^◌, ◌<◌, ◌≤◌, Bool, true, false, cond, nat_lt, List, [], ◌∷◌}
 use Rattle.std.proofs.Common.{◌++◌}
 use Rattle.std.proofs.Common.{length, refl, sym, ap, subst, ◌∙◌, arith, inl, inr, append_assoc, Option, Some, None}
@@ -52,18 +52,18 @@ no_err x f h = absurd cc
 
 -- ---- where words break off
 
--- what stands from a fault on: the words from its place on, or nothing, where a word is missing
+-- the words from a fault on: those from its place on, or none if a word is missing
 abbrev pub IsTail : List ℕ → Flaw → List (List ℕ) → Type 0
 IsTail line f tail = ((place : ℕ) × ((tail ≡ words_from line place) × ((place ≤ length line) × (f.column ≡ place + 1))))
     ⊎ ((tail ≡ []) × (f.column ≡ length line + 1))
 
--- a fault stands behind these words
+-- a fault is after these words
 pub record BreaksBehind (line : List ℕ) (at : ℕ) (f : Flaw) (firsts : List (List ℕ)) : Type 0 where
   pub tail : List (List ℕ)
   pub words : words_from line at ≡ firsts ++ tail
   pub place : IsTail line f tail
 
--- a fault stands behind the first ones of these words
+-- a fault is after a prefix of these words
 pub record Breaks (line : List ℕ) (at : ℕ) (f : Flaw) (full : List (List ℕ)) : Type 0 where
   pub firsts : List (List ℕ)
   pub lasts : List (List ℕ)
@@ -75,7 +75,7 @@ pub here : (line : List ℕ) (at : ℕ) (f : Flaw) (full : List (List ℕ)) → 
     → Breaks line at f full
 here line at f full h = record { firsts = []; lasts = full; full_is = refl; behind = h }
 
--- a fault behind more words
+-- a fault after more words
 pub later : (line : List ℕ) (at after : ℕ) (f : Flaw) (ws full : List (List ℕ))
     → words_from line at ≡ ws ++ words_from line after → Breaks line after f full → Breaks line at f (ws ++ full)
 later line at after f ws full e h = record {
@@ -99,7 +99,7 @@ more_behind line at f full more h = record {
   behind = h.behind;
 }
 
--- a fault at a word that is there
+-- a fault at a word that exists
 pub at_place : (line : List ℕ) (at : ℕ) (f : Flaw) → at ≤ length line → f.column ≡ at + 1 → BreaksBehind line at f []
 at_place line at f within column =
     record { tail = words_from line at; words = refl; place = inl (at, (refl, (within, column))) }
@@ -147,7 +147,7 @@ word_within line at kind w h = elim (cases_lt (length line) at) [
   | inr within ↦ within
 ]
 
--- a number that is read stands within the line
+-- a number that is read is within the line
 pub number_within : (line : List ℕ) (at low high : ℕ) (v : ℕ × ℕ) → number_at line at low high ≡ Ok v
     → at ≤ length line
 unfolding number_at
@@ -210,9 +210,9 @@ operand_break sizes line at Long f h = number_break line at 0 184467440737095516
 operand_break sizes line at Address f h = address_break line at sizes.words f h
 operand_break sizes line at Percent f h = number_break line at 0 100 f h
 
--- ---- numbers behind operands
+-- ---- numbers after operands
 
--- numbers of which the fault stands behind the first ones
+-- numbers, of which a prefix is before the fault
 record NumbersBreak (line : List ℕ) (at : ℕ) (f : Flaw) : Type 0 where
   numbers : List ℕ
   small : AreSmall numbers
@@ -239,7 +239,7 @@ by_break (suc n) line at f h = elim (cases_lt (length line) at) [
   ]
 ]
 
--- the same of numbers that may be there
+-- the same for numbers that may be allowed
 record MoreBreaks (line : List ℕ) (at : ℕ) (f : Flaw) (some : Bool) : Type 0 where
   numbers : List ℕ
   fits : AreMore some numbers
@@ -253,7 +253,7 @@ more_break line at f true h =
     let b = by_break (length line + 1) line at f h in
     record { numbers = b.numbers; fits = all_from (λ n. n < 2 ^ 32) b.numbers b.small; breaks = b.breaks }
 
--- no numbers may be there always
+-- an empty list of numbers is always allowed
 no_more : (some : Bool) → AreMore some []
 no_more false = refl
 no_more true = all_from (λ n. n < 2 ^ 32) [] tt
@@ -270,7 +270,7 @@ zero_fits sizes Long few = omega arith
 zero_fits sizes Address few = (omega arith, few.words.0)
 zero_fits sizes Percent few = omega arith
 
--- operands of a verb, of which the fault stands behind the first ones
+-- operands of a verb, of which a prefix is before the fault
 record OperandsBreak (sizes : Sizes) (line : List ℕ) (at : ℕ) (f : Flaw) (verb : Verb) : Type 0 where
   first : ℕ
   second : ℕ
@@ -355,14 +355,14 @@ operands_break sizes line at f verb few h =
 
 -- ---- orders
 
--- an order of an actor, of whose words the fault stands behind the first ones
+-- an order of an actor, of whose words a prefix is before the fault
 pub record OrderBreaks (sizes : Sizes) (actor : Actor) (line : List ℕ) (at : ℕ) (f : Flaw) : Type 0 where
   pub order : Order
   pub own : IsFor actor order
   pub fits : IsOrder (bounds_in sizes) order
   pub breaks : Breaks line at f (order_words order)
 
--- where no word of an order is known
+-- if no word of an order is known
 unknown_order : (sizes : Sizes) (actor : Actor) (line : List ℕ) (at : ℕ) (f : Flaw) → BreaksBehind line at f []
     → OrderBreaks sizes actor line at f
 unknown_order sizes (Thread t) line at f h =
@@ -384,7 +384,7 @@ unknown_order sizes (Worker w) line at f h =
 
 module _ (sizes : Sizes) (actor : Actor) (line : List ℕ) (at after : ℕ) (f : Flaw) (verb : Verb)
     (own : does actor verb ≡ true) (first : words_from line at ≡ (row_of verb).text ∷ words_from line after) where
-  -- where an operand isn't read
+  -- if an operand isn't read
   operands_told : OperandsBreak sizes line after f verb → OrderBreaks sizes actor line at f
   operands_told h = record {
     order = order_of verb h.first h.second h.third h.wide h.more;
@@ -393,7 +393,7 @@ module _ (sizes : Sizes) (actor : Actor) (line : List ℕ) (at after : ℕ) (f :
     breaks = later line at after f ((row_of verb).text ∷ []) _ first h.breaks;
   }
 
-  -- where more words stand behind the order
+  -- if more words follow the order
   end_told : (end : ℕ) (order : Order) → IsOrderAt sizes line after verb (order, end) → BreaksBehind line end f []
       → OrderBreaks sizes actor line at f
   end_told end order operands h =

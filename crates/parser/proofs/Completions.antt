@@ -1,4 +1,4 @@
--- Lines that are taken begin a script, as some lines behind them complete it.
+-- Lines that are accepted begin a script, as some lines after them complete it.
 use Rattle.std.proofs.Common.{◌≡◌, ℕ, ◌^◌, ◌≤◌, Bool, true, false, List, [], ◌∷◌, ◌++◌, length}
 use Rattle.std.proofs.Common.{Option, Some, None, refl, sym, ap, subst, ◌∙◌, arith, inl, inr, append-nil, append_assoc}
 use Rattle.std.proofs.Common.{length-append}
@@ -32,7 +32,7 @@ use Rattle.parser.proofs.TakenLines.{layout_taken, heap_taken}
 
 -- ---- lines that spell a script
 
--- lines that say something say a script, whose numbers nobody limits
+-- lines that spell a script, without a limit on its numbers
 record SaysScript (said : List (List ℕ)) (s : ScriptValue) : Type 0 where
   heap : List ℕ
   heap_spelled : SpellsHeap heap s.config
@@ -55,7 +55,7 @@ lines_spell lines s each h = record {
   said = h.said_is;
 }
 
--- the text of lines begins what it spells with more lines behind it
+-- the text of lines begins what they spell with more lines after them
 begins_by : (lines more : List (List ℕ)) (s : ScriptValue) → IsScript s → Spells (text_of (lines ++ more)) s
     → BeginsScript (text_of lines)
 begins_by lines more s valid h = record {
@@ -73,7 +73,7 @@ begins_front front back h = record {
   spelled = subst (λ (x : List ℕ). Spells x h.script) (append_assoc front back h.more) h.spelled;
 }
 
--- lines begin what they begin with one line more
+-- lines begin what they begin with one more line
 begins_before : (lines : List (List ℕ)) (line : List ℕ) → BeginsScript (text_of (lines ++ line ∷ []))
     → BeginsScript (text_of lines)
 begins_before lines line h = begins_front (text_of lines) (text_of (line ∷ []))
@@ -156,7 +156,7 @@ open_ends lines r turns each b some_layout some =
           (all_push HasNoNewlines lines (codes "end") each (no_newlines (codes "end") refl)) says;
     }
 
--- a block that is open is too large, or its `end` makes a script
+-- an open block is too large, or its `end` completes a script
 block_has_none : (lines : List (List ℕ)) → EndInBlock lines → HaveNoFault lines
 block_has_none lines block =
     elim (cases_lt MOST_COMMANDS (length block.script.commands)) [
@@ -291,7 +291,7 @@ behind_has_none lines r b false None some turns each =
 behind_has_none lines r b false (Some n) some turns each =
     block_has_none lines (open_ends lines r n each b (some_layouts r.layouts some) turns)
 
--- lines that are taken have no fault
+-- lines that are accepted have no fault
 pub taken_have_none : (lines : List (List ℕ)) (r : ReadSoFar) → AllByRecursion HasNoNewlines lines
     → Said (filter says_something lines) r → HaveNoFault lines
 taken_have_none lines r each (inl before) = inl (empty_begins lines r each before)

@@ -29,7 +29,7 @@ no_heap_line : script_in (codes "# a" ++ 10 ∷ codes "end" ++ 10 ∷ [])
 unfolding script_in lines_in line_in heap_line first_word word_at
 no_heap_line = refl
 
--- a heap line that ends behind its first word
+-- a heap line that ends after its first word
 no_words : script_in (codes "heap" ++ 10 ∷ [])
     ≡ Err (record { line = 1; column = 5; kind = kinds.UnknownWord })
 unfolding script_in lines_in line_in heap_line first_word word_at heap_in sizes_at memory_at page_size_at fixed_at
@@ -127,7 +127,7 @@ some_sizes = record {
   history = 1;
 }
 
--- what a worker's words are read as
+-- the order that a worker's words are read as
 abbrev read : List ℕ → Result Order Flaw
 read line = order_at some_sizes line (Worker 0) 0
 
@@ -141,7 +141,7 @@ unfolding order_at operands_at operand_at numbers_at numbers_by small_at number_
     capped_from end_at
 three_pages = refl
 
--- without a page, with an empty word behind the pages, and with pages that are no numbers of 32 bits
+-- without a page, with an empty word after the pages, and with pages that are no numbers of 32 bits
 no_page : read (codes "protect") ≡ Err (flaw 7 kinds.NumberExpected)
 unfolding order_at operands_at operand_at small_at number_at word_or word_at verb_of
 no_page = refl
@@ -161,12 +161,12 @@ unfolding order_at operands_at operand_at numbers_at numbers_by small_at number_
     capped_from
 large_page = refl
 
--- other orders end behind their operands
+-- other orders end after their operands
 one_word_more : read (codes "release 1 2") ≡ Err (flaw 10 kinds.EndOfLineExpected)
 unfolding order_at operands_at operand_at small_at number_at word_or word_at verb_of is_number capped_from end_at
 one_word_more = refl
 
--- an address, and some that are none
+-- an address, and words that are no address
 address : address_at (codes "pick 3.5") 5 16 ≡ Ok (12884901893, 9)
 unfolding address_at word_or word_at point_parts is_number capped_from
 address = refl
@@ -183,7 +183,7 @@ two_points : address_at (codes "pick 3.5.1") 5 16 ≡ Err (flaw 5 kinds.UnknownW
 unfolding address_at word_or word_at point_parts is_number
 two_points = refl
 
--- a worker's command isn't a thread's, nor the other way
+-- a worker's command isn't a thread's, nor the other way round
 not_for_thread : verb_in (Thread 0) (codes "mark") ≡ None
 unfolding verb_of
 not_for_thread = refl

@@ -32,9 +32,9 @@ use Rattle.parser.proofs.AlikeLines.{line_taken}
 use Rattle.parser.proofs.RightUpTo.{right_up_to}
 use Rattle.parser.proofs.Stops.{never_begins}
 
--- ---- the bytes behind a line
+-- ---- the bytes after a line
 
--- what stands behind a line, from its newline on
+-- the bytes after a line, from its newline on
 abbrev behind_of : List (List ℕ) → List ℕ
 behind_of [] = []
 behind_of (next ∷ others) = 10 ∷ join_with_byte 10 (next ∷ others)
@@ -81,7 +81,7 @@ has_lines bytes before line others h =
 one_more : (k : ℕ) → 1 + k ≡ k + 1
 one_more k = omega arith
 
--- a command or a block begins behind some layout line
+-- a command or a block begins after some layout line
 has_started : (said : List (List ℕ)) (t : ReadSoFar) → Said said t → t.begun ≡ true → 1 ≤ length t.layouts
 has_started said t (inl before) h = let no : t.begun ≡ false = ap (λ (x : ReadSoFar). x.begun) before.is in absurd cc
 has_started said t (inr behind) h = behind.started h
@@ -116,7 +116,7 @@ in_line bytes before line others n t fault has number leads so_far why =
           at.is.line_is at.is.ends at.column;
     }
 
--- what is missing behind lines, with the fault that tells it
+-- what is missing after lines, with the fault that reports it
 record IsToldMissing (lines : List (List ℕ)) (n : ℕ) (fault : LineFault) : Type 0 where
   kind : FaultKind
   missing : IsMissingBehind lines kind
@@ -129,7 +129,7 @@ no_layouts : (ls : List Layout) → (length ls == 0) ≡ true → ls ≡ []
 no_layouts [] h = refl
 no_layouts (l ∷ ls) h = absurd (grind (arith, nat_tests))
 
--- behind the heap line, where nothing but it was said
+-- after the heap line, if only that line isn't empty or a comment
 heap_alone : (said : List (List ℕ)) (r : ReadSoFar) (b : IsBehind said r) → (length r.layouts == 0) ≡ true
     → said ≡ b.heap ∷ []
 heap_alone said r b none =
@@ -209,7 +209,7 @@ no_newline bytes before line others n t fault has number so_far why =
       faultless = taken_have_none (before ++ line ∷ []) why.state each after;
     }
 
--- ---- all of it
+-- ---- all cases
 
 places : (bytes : List ℕ) (fault : LineFault) (lines : List (List ℕ)) (stop : StopsAt 1 nothing lines fault)
     → slice_split newline bytes ≡ lines
@@ -244,7 +244,7 @@ is_first bytes fault h =
       no_script = λ s valid spelled. no_ok fault s (sym h ∙ spelled_is_read bytes s valid spelled);
     }
 
--- where a fault is told, it is the first one
+-- a fault that is reported is the first one
 pub first_told : (bytes : List ℕ) (r : Result ParsedScript ParseFault) → IsReadOf r (script_in bytes)
     → TellsFirst bytes r
 first_told bytes (Ok s) h = tt

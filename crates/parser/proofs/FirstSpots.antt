@@ -1,4 +1,4 @@
--- The first line that is sought is found line by line.
+-- The first line that is searched for is found line by line.
 use Rattle.std.proofs.Common.{◌≡◌, ℕ, suc, ◌+◌, ◌≤◌, Bool, true, false, cond, nat_lt, List, [], ◌∷◌, length, drop}
 use Rattle.std.proofs.Common.{Option, Some, None, position, refl, ap, sym, ◌∙◌, arith, get_or}
 use Rattle.std.specs.Option.{option_map}
@@ -23,7 +23,7 @@ cut_ends line (Some i) h =
     let within = facts.0 in
     omega arith
 
--- it is at most one past the line's length
+-- it is at most the line's length plus one
 pub second_place : (line : List ℕ) → (first_word line).1 ≤ length line + 1
 unfolding first_word word_at
 second_place line = by_test (nat_lt (length line) 0)
@@ -35,12 +35,12 @@ second_place line = by_test (nat_lt (length line) 0)
 
 -- ---- the first line of lines
 
--- the first of lines that is sought, as a fault, where they count from a number on
+-- the first of the lines that is searched for, as a fault, if they count from n
 unfoldable pub first_from : Sought → ℕ → List (List ℕ) → Option LineFault
 first_from s n lines =
     option_map (λ i. fault_at (fault_of s) (i + n) (get_or lines i [])) (position (is_sought s) lines)
 
--- a line as a fault, where it is sought
+-- a line as a fault, if it is searched for
 abbrev pub line_or : Sought → ℕ → List ℕ → Option LineFault
 line_or s n line = cond (is_sought s line) (Some (fault_at (fault_of s) n line)) None
 
@@ -53,7 +53,7 @@ later_place k n j m e f = by_test (nat_lt k n) refl
     by_test true h = let t : nat_lt j m ≡ true = grind (arith, nat_tests) in rw (t, e) refl
     by_test false h = let t : nat_lt j m ≡ false = grind (arith, nat_tests) in rw t refl
 
--- where the first element doesn't pass, the place is counted from the second one
+-- if the first element doesn't pass, the place counts from the second one
 position_later : (p : List ℕ → Bool) (x : List ℕ) (xs : List (List ℕ)) → p x ≡ false
     → position p (x ∷ xs) ≡ option_map (λ i. suc i) (position p xs)
 position_later p x xs h =
@@ -75,7 +75,7 @@ counted s n line lines (Some i) =
     let e : suc i + n ≡ i + (n + 1) = omega arith in
     ap (λ k. Some (fault_at (fault_of s) k (get_or lines i []))) e
 
--- a first line that isn't sought is passed
+-- a first line that isn't searched for is skipped
 pub passed : (s : Sought) (n : ℕ) (line : List ℕ) (lines : List (List ℕ)) → is_sought s line ≡ false
     → first_from s n (line ∷ lines) ≡ first_from s (n + 1) lines
 unfolding first_from
@@ -83,7 +83,7 @@ passed s n line lines h =
     ap (option_map (λ i. fault_at (fault_of s) (i + n) (get_or (line ∷ lines) i [])))
     (position_later (is_sought s) line lines h) ∙ counted s n line lines (position (is_sought s) lines)
 
--- a first line that is sought is the first of all
+-- a first line that is searched for is the first of all
 pub met : (s : Sought) (n : ℕ) (line : List ℕ) (lines : List (List ℕ)) → is_sought s line ≡ true
     → first_from s n (line ∷ lines) ≡ Some (fault_at (fault_of s) n line)
 unfolding first_from
@@ -119,7 +119,7 @@ cut_is bytes line after cut =
     ∙ ap (λ (x : List ℕ). x ∷ slice_split newline (drop (length line + 1) bytes)) (sym cut.line_is)
     ∙ ap (λ (x : List ℕ). line ∷ slice_split newline x) (sym cut.after_is)
 
--- a line that is sought is the first of the lines from there on
+-- a line that is searched for is the first of the lines from there on
 pub spot_here : (s : Sought) (n : ℕ) (fault : LineFault) (bytes line after : List ℕ) → CutsLine bytes line after
     → line_or s n line ≡ Some fault → first_from s n (slice_split newline bytes) ≡ Some fault
 spot_here s n fault bytes line after cut h =
@@ -130,7 +130,7 @@ spot_here s n fault bytes line after cut h =
     by_test true e k = met s n line (slice_split newline after) e ∙ k
     by_test false e k = absurd cc
 
--- behind another line the first one is sought further on
+-- if the first line isn't searched for, the search continues with the rest
 pub spot_later : (s : Sought) (n : ℕ) (bytes line after : List ℕ) → CutsLine bytes line after
     → line_or s n line ≡ None
     → first_from s (n + 1) (slice_split newline after) ≡ first_from s n (slice_split newline bytes)
@@ -143,7 +143,7 @@ spot_later s n bytes line after cut h =
     by_test true e k = absurd cc
     by_test false e k = passed s n line (slice_split newline after) e
 
--- what stands behind the last newline is a line too
+-- the bytes after the last newline are a line too
 pub spot_last : (s : Sought) (n : ℕ) (bytes : List ℕ) → position newline bytes ≡ None
     → first_from s n (slice_split newline bytes) ≡ line_or s n bytes
 spot_last s n bytes h = ap (first_from s n) (split_none newline bytes h) ∙ one_line s n bytes

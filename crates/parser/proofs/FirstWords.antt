@@ -1,4 +1,4 @@
--- The first word of a line is there, so that it is read once.
+-- The first word of a line exists, so it is read only once.
 use Rattle.std.proofs.Common.{◌≡◌, ℕ, Bool, true, false, cond, List, length, drop, refl, ap, sym, ◌∙◌, arith}
 use Rattle.std.specs.Prelude.{Some, None, Ok, nat_lt, position, ◌==◌}
 use Rattle.std.proofs.lemmas.Bool.Decides.{nat_tests}
@@ -6,13 +6,13 @@ use Rattle.parser.specs.declared.fault.FaultKind.TheVariants as kinds
 use Rattle.parser.specs.Words.{◌>>=◌, or_flaw, flaw, cut_at, word_at, word_or, named_in, named_at}
 use Rattle.parser.specs.Reading.{first_word, first_word_in}
 
--- a word that is there
+-- a word that exists
 is_there : (b : Bool) (x : List ℕ × ℕ) (at : ℕ) → b ≡ false
     → or_flaw (cond b None (Some x)) (flaw at kinds.UnknownWord) ≡ Ok (first_word_in (cond b None (Some x)))
 is_there true x at h = absurd cc
 is_there false x at h = refl
 
--- the first word is there
+-- the first word exists
 first_is : (line : List ℕ) → word_or line 0 kinds.UnknownWord ≡ Ok (first_word line)
 unfolding word_or word_at first_word
 first_is line =
@@ -20,7 +20,7 @@ first_is line =
     is_there (nat_lt (length line) 0) (cut_at line 0 (drop 0 line) (position (λ b. b == 32) (drop 0 line)))
     (length line) low
 
--- what is named by the first word is what is named at the front of the line
+-- the name of the first word is the name at the beginning of the line
 pub first_named : (line word : List ℕ) (after letter count : ℕ) → (word, after) ≡ first_word line
     → named_in word after 0 letter count kinds.NoSuchActor ≡ named_at line 0 letter count kinds.NoSuchActor
 unfolding named_at

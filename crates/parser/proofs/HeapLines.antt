@@ -1,4 +1,4 @@
--- The heap line and the layout lines: what is read is written so, and what is written so is read.
+-- The heap line and the layout lines: what is read is spelled so, and what is spelled so is read.
 use Rattle.std.proofs.Common.{◌≡◌, ℕ, ◌+◌, ◌^◌, ◌<◌, ◌≤◌, cond, true, false, nat_lt, List, [], ◌∷◌, ◌++◌}
 use Rattle.std.proofs.Common.{Some, refl, sym, ap, subst, ◌∙◌, arith, inl, inr, lit<, lit≤}
 use Rattle.std.specs.Prelude.{Ok, Err, not, codes, ◌⊎◌, Bool, length}
@@ -28,13 +28,13 @@ use Rattle.parser.proofs.Readers.{IsReadAt, BreaksIn, IsReader, Any, Three, thre
 use Rattle.parser.proofs.Readers.{whole_breaks}
 use Rattle.parser.proofs.Places.{bind_ok, fixed_ok, fixed_again, number_ok, number_again, end_ok, end_again, one_of}
 
--- ---- a number behind its name
+-- ---- a number after its name
 
 -- a number from low to high
 abbrev pub IsWithin : ℕ → ℕ → ℕ → Type 0
 IsWithin low high n = (low ≤ n) × (n ≤ high)
 
--- a number from low to high is spelled behind its name
+-- a number from low to high is spelled after its name
 pub record IsField (name : List ℕ) (low high n : ℕ) (ws : List (List ℕ)) : Type 0 where
   pub words_are : ws ≡ name ∷ decimal n ∷ []
   pub within : IsWithin low high n
@@ -81,7 +81,7 @@ field_reader name low high fits some = record {
 
 -- ---- the words of a page
 
--- a page size is spelled behind its name
+-- a page size is spelled after its name
 pub record IsPageSize (n : ℕ) (ws : List (List ℕ)) : Type 0 where
   pub words_are : ws ≡ codes "words" ∷ decimal n ∷ []
   pub size : is_page_size n ≡ true
@@ -146,7 +146,7 @@ page_size_reader = record {
 
 -- ---- limits
 
--- a limit is spelled behind its name, or is left out
+-- a limit is spelled after its name, or omitted
 pub record IsLimit (name : List ℕ) (most n : ℕ) (ws : List (List ℕ)) : Type 0 where
   pub is : SpellsLimit name most n ws
   pub within : IsWithin 1 most n
@@ -162,7 +162,7 @@ limit_absent line at name most [] other h = limit_past line at name most (past_e
 limit_absent line at name most (w ∷ ws) other h =
     let found = found_word line at w ws h in limit_other line at name most (w, found.0) found.1 other
 
--- a limit is a number behind its name, or left out
+-- a limit is a number after its name, or omitted
 limit_told : (line : List ℕ) (at : ℕ) (name : List ℕ) (most : ℕ)
     → (limit_at line at name most ≡ field_at line at name 1 most) ⊎ (limit_at line at name most ≡ Ok (most, at))
 limit_told line at name most = elim (cases_lt (length line) at) [
@@ -188,7 +188,7 @@ limit_again line at name most n ws rest low fits (inr e) within other h =
     let same : words_from line at ≡ rest = h ∙ ap (λ (t : List (List ℕ)). t ++ rest) e.0 in
     (at, limit_absent line at name most rest other same ∙ ap (λ (t : ℕ). Ok (t, at)) (sym e.1), same)
 
--- a limit, where only such words follow as don't begin with its name
+-- a limit, if the words that follow don't begin with its name
 limit_reader : (name : List ℕ) (most : ℕ) (May : List (List ℕ) → Type 0) → 1 ≤ most → most < 2 ^ 64
     → ((ws : List (List ℕ)) → May ws → IsNotHeaded name ws)
     → IsReader (λ line at. limit_at line at name most) (IsLimit name most) May
@@ -285,7 +285,7 @@ actors_reader = three_reader (λ line at. field_at line at (codes "threads") 1 M
     (field_reader (codes "workers") 1 16 (lit< tt) (omega arith))
     (λ workers ws is. field_reader (codes "registers") 1 16 (lit< tt) (omega arith)) (λ b c ws rest is may. tt)
 
--- the words of a history, with nothing behind them, don't begin with births
+-- the words of a history, with nothing after them, don't begin with births
 not_births : (n : ℕ) (words rest : List (List ℕ)) → SpellsLimit (codes "history") 1000000 n words → IsLast rest
     → IsNotHeaded (codes "births") (words ++ rest)
 not_births n words rest (inl e) last =
@@ -408,7 +408,7 @@ heap_breaks line at f h = let b = whole_breaks sizes_at AreParts IsLast refl par
 
 -- ---- layout lines
 
--- a layout is spelled from a place to the end, and its objects have room
+-- a layout is spelled from a place to the end, and its objects fit
 pub record IsLayoutAt (words : ℕ) (line : List ℕ) (at : ℕ) (l : Layout) : Type 0 where
   pub spelled : words_from line at ≡ decimal l.refs ∷ decimal l.nums ∷ []
   pub is : IsLayout l

@@ -1,4 +1,4 @@
--- Lines off the front of a script.
+-- Cutting lines off the beginning of a script.
 use Rattle.std.proofs.Common.{◌≡◌, ℕ, ◌+◌, List, ◌∷◌, length, take, drop, Some, None, refl, ap, sym, ◌∙◌, position}
 use Rattle.std.specs.Prelude.{Ok, Err}
 use Rattle.std.specs.List.{slice_split}
@@ -6,7 +6,7 @@ use Rattle.parser.specs.declared.fault.LineFault.{LineFault}
 use Rattle.parser.specs.Reading.{newline, CutsLine, ReadSoFar, lines_in, last_line, goes_on, in_line, line_in}
 use Rattle.parser.proofs.Lists.{IsCons, split_cons, split_some, split_none}
 
--- a line that isn't the last leads on
+-- a line that isn't the last is followed by the others
 pub lines_cons : (n : ℕ) (s : ReadSoFar) (line : List ℕ) (lines : List (List ℕ)) → IsCons lines
     → lines_in n s (line ∷ lines) ≡ goes_on (in_line n (line_in s line)) (λ t. lines_in (n + 1) t lines)
 unfolding lines_in
@@ -26,7 +26,7 @@ pub lines_last : (n : ℕ) (s : ReadSoFar) (bytes : List ℕ) → position newli
 unfolding lines_in
 lines_last n s bytes h = rw (split_none newline bytes h) refl
 
--- a line that is taken leads on
+-- a line that is accepted is followed by the others
 pub step_ok : (n : ℕ) (s t : ReadSoFar) (bytes line after : List ℕ) → CutsLine bytes line after
     → in_line n (line_in s line) ≡ Ok t
     → lines_in (n + 1) t (slice_split newline after) ≡ lines_in n s (slice_split newline bytes)

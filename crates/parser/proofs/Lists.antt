@@ -12,13 +12,13 @@ use Rattle.std.proofs.lemmas.List.Quantifiers.{position-Some}
 use Rattle.std.proofs.lemmas.List.Sums.{position_or_len_is, fails_before_first}
 use Rattle.model.proofs.Lists.{none_far}
 
--- what holds by recursion holds at each index
+-- what holds for all by recursion holds at each index
 pub all_from : {A : Type 0} (P : A → Type 0) (xs : List A) → AllByRecursion P xs → All P xs
 all_from P [] h k d lt = absurd (omega arith)
 all_from P (x ∷ xs) h zero d lt = h.0
 all_from P (x ∷ xs) h (suc k) d lt = all_from P xs h.1 k d (omega arith)
 
--- what holds at each index holds by recursion
+-- what holds at each index holds for all by recursion
 pub all_to : {A : Type 0} (P : A → Type 0) (xs : List A) → All P xs → AllByRecursion P xs
 all_to P [] h = tt
 all_to P (x ∷ xs) h = (h 0 x (omega arith), all_to P xs (λ k d lt. h (suc k) d (omega arith)))
@@ -28,7 +28,7 @@ pub all_weaker : {A : Type 0} (P Q : A → Type 0) → ((x : A) → P x → Q x)
 all_weaker P Q f [] h = tt
 all_weaker P Q f (x ∷ xs) h = (f x h.0, all_weaker P Q f xs h.1)
 
--- no newline stands in a line, by recursion
+-- a line has no newline, by recursion
 abbrev pub HasNoNewlines : List ℕ → Type 0
 HasNoNewlines line = AllByRecursion (λ b. b ≢ 10) line
 
@@ -53,7 +53,7 @@ pub all_front : {A : Type 0} (P : A → Type 0) (xs ys : List A) → AllByRecurs
 all_front P [] ys h = tt
 all_front P (x ∷ xs) ys h = (h.0, all_front P xs ys h.1)
 
--- the lines that a first line adds to those that pass
+-- the lines that pass, with a first line
 abbrev pub told : (List ℕ → Bool) → List ℕ → List (List ℕ)
 told p line = cond (p line) (line ∷ []) []
 
@@ -63,7 +63,7 @@ filter_told p line lines =
     elim (p line) as (λ b. cond b (line ∷ filter p lines) (filter p lines) ≡ cond b (line ∷ []) [] ++ filter p lines)
     [ true ↦ refl | false ↦ refl ]
 
--- lines with an empty part behind them, joined by newlines, are the lines that each end in one
+-- lines with an empty part after them, joined by newlines, are the lines that each end in one
 pub joined_lines : (lines : List (List ℕ)) → join_with_byte 10 (lines ++ [] ∷ []) ≡ flat_map with_newline lines
 joined_lines [] = refl
 joined_lines (line ∷ []) = sym (append-nil (line ++ 10 ∷ []))
@@ -81,7 +81,7 @@ part_lines x xs true e h = rw e (tt, h)
 part_lines x xs false e h =
     let ne : x ≢ 10 = grind (arith, nat_tests) in rw e (first_line x (slice_split newline xs) ne h)
 
--- no newline stands in a part
+-- a part has no newline
 pub split_lines : (bytes : List ℕ) → AllByRecursion HasNoNewlines (slice_split newline bytes)
 split_lines [] = (tt, tt)
 split_lines (x ∷ xs) = part_lines x xs (newline x) refl (split_lines xs)
@@ -111,7 +111,7 @@ split_some p xs end h =
     let within : position_or_len p xs < length xs = rw at facts.0 in
     rw at at (slice_split_first p xs 0 within)
 
--- where none passes there is one part
+-- if none passes, there is one part
 pub split_none : (p : ℕ → Bool) (xs : List ℕ) → position p xs ≡ None → slice_split p xs ≡ xs ∷ []
 split_none p xs h =
     let far : length xs ≤ position_or_len p xs = none_far (position_or_len p xs) (length xs) h in

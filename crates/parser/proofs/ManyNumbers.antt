@@ -1,4 +1,4 @@
--- Numbers to the end of a line: what is read is written so, and what is written so is read.
+-- Numbers to the end of a line: what is read is spelled so, and what is spelled so is read.
 use Rattle.std.proofs.Common.{◌≡◌, ℕ, zero, suc, ◌+◌, ◌<◌, ◌≤◌, ◌^◌, cond, nat_lt, List, [], ◌∷◌, ◌++◌, length}
 use Rattle.std.proofs.Common.{refl, sym, ap, subst, ◌∙◌, arith, inl, inr, append_assoc, append-nil}
 use Rattle.std.specs.Prelude.{Result, Ok, Err, map, not, ◌||◌}
@@ -30,7 +30,7 @@ word_moves line at kind w h =
           subst (λ (x : List ℕ × ℕ). at < x.1) same (omega arith)
     ]
 
--- the place behind a number lies behind that of the number
+-- the place after a number is greater than that of the number
 pub small_moves : (line : List ℕ) (at : ℕ) (v : ℕ × ℕ) → small_at line at ≡ Ok v → at < v.1
 unfolding small_at number_at
 small_moves line at v h =
@@ -47,7 +47,7 @@ small_moves line at v h =
 
 -- ---- the first of the numbers
 
--- a number and those behind it
+-- a number and those after it
 abbrev pub with_first : ℕ × ℕ → Result (List ℕ × ℕ) Flaw → Result (List ℕ × ℕ) Flaw
 with_first v r = r >>= (λ others. Ok (v.0 ∷ others.0, others.1))
 
@@ -61,13 +61,13 @@ pub by_first : (n : ℕ) (line : List ℕ) (at : ℕ) → at ≤ length line
 unfolding numbers_by
 by_first n line at h = rw (le-ltb (length line) at h) refl
 
--- steps that go on alike where there is no fault
+-- steps that continue in the same way if there is no fault
 same_behind : {A B : Type 0} (r : Result A Flaw) (f g : A → Result B Flaw)
     → ((x : A) → r ≡ Ok x → f x ≡ g x) → (r >>= f) ≡ (r >>= g)
 same_behind (Ok x) f g h = h x refl
 same_behind (Err e) f g h = refl
 
--- it doesn't matter how many numbers there may be, where they are enough for the line
+-- any limit on how many numbers are read is the same if it is enough for the line
 enough : (n m : ℕ) (line : List ℕ) (at : ℕ) → length line < at + n → length line < at + m
     → numbers_by n line at ≡ numbers_by m line at
 enough zero m line at h k = by_past zero line at (omega arith) ∙ sym (by_past m line at (omega arith))
@@ -82,7 +82,7 @@ enough (suc n) (suc m) line at h k = elim (cases_lt (length line) at) [
       ∙ sym (by_first m line at within)
 ]
 
--- the numbers of a line are those that are read so many at most, where that is enough
+-- the numbers of a line are those read up to a limit, if that is enough
 pub numbers_enough : (n : ℕ) (line : List ℕ) (at : ℕ) → length line < at + n → numbers_at line at ≡ numbers_by n line at
 unfolding numbers_at
 numbers_enough n line at h = enough (length line + 1) n line at (omega arith) h
@@ -104,7 +104,7 @@ numbers_first line at h =
 
 -- ---- a loop over numbers
 
--- numbers, and those that are read behind them
+-- numbers, and those that are read after them
 abbrev pub with_firsts : List ℕ → Result (List ℕ × ℕ) Flaw → Result (List ℕ × ℕ) Flaw
 with_firsts ns r = r >>= (λ others. Ok (ns ++ others.0, others.1))
 

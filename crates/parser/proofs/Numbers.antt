@@ -1,4 +1,4 @@
--- Numbers in words are read as they are written.
+-- Numbers in words are read as they are spelled.
 use Rattle.std.proofs.Common.{◌≡◌, ℕ, ◌+◌, ◌-◌, ◌*◌, ◌^◌, ◌<◌, Bool, true, false, List, []}
 use Rattle.std.proofs.Common.{◌∷◌, length, get_or, refl, ap, ◌∙◌, arith, rules, inl, inr}
 use Rattle.std.specs.Prelude.{◌&&◌, ◌||◌, not, min, ◌==◌}
@@ -11,7 +11,7 @@ use Rattle.std.proofs.lemmas.Bool.{cases_lt, and_parts, or_cases, or_right}
 use Rattle.std.proofs.lemmas.Str.Parse.{IsNumeralModel, IsDigitsTest, FoldsDigits, numerals_by_fold}
 use Rattle.parser.specs.Words.{is_digit, starts_with_zero, is_number, capped_from}
 
--- the number that digits stand for behind what went before
+-- the number that digits represent after earlier ones
 abbrev value_from : ℕ → List ℕ → ℕ
 value_from v [] = v
 value_from v (b ∷ bs) = value_from (v * 10 + (b - 48)) bs
@@ -31,7 +31,7 @@ own = numerals_by_fold AreDigits tells value_from folds
 min_again : (v d : ℕ) → min (min v (2 ^ 64) * 10 + d) (2 ^ 64) ≡ min (v * 10 + d) (2 ^ 64)
 min_again v d = omega arith
 
--- taking large numbers as one loses nothing else
+-- taking all large numbers as 2^64 changes no other
 capped_is : (v : ℕ) (bs : List ℕ) → capped_from (min v (2 ^ 64)) bs ≡ min (value_from v bs) (2 ^ 64)
 unfolding capped_from
 capped_is v [] = refl
@@ -40,7 +40,7 @@ capped_is v (b ∷ bs) = ap (λ n. capped_from n bs) (min_again v (b - 48)) ∙ 
 capped_whole : (bs : List ℕ) → capped_from 0 bs ≡ min (value_from 0 bs) (2 ^ 64)
 capped_whole bs = capped_is 0 bs
 
--- what the test of a number tells
+-- what the test of a number shows
 record IsNumber (word : List ℕ) : Type 0 where
   digits : AreDigits word
   nonempty : 0 < length word
@@ -62,7 +62,7 @@ number_tells word h =
     let q = and_parts (not (length word == 0)) (list_all is_digit word) p.0 in
     record { digits = q.1; nonempty = grind (arith, nat_tests); canonical = canonical_in word p.1 }
 
--- a number below 2^64 that is read is written so
+-- a number below 2^64 that is read is spelled so
 pub number_spelled : (word : List ℕ) → is_number word ≡ true → capped_from 0 word < 2 ^ 64
     → decimal (capped_from 0 word) ≡ word
 number_spelled word h small =
@@ -87,11 +87,11 @@ canonical_decimal n h = elim (cases_lt 0 n) [
       rw (e, d) refl
 ]
 
--- a number is written in digits
+-- a number is spelled in digits
 pub decimal_digits : (n : ℕ) → n < 2 ^ 64 → list_all is_digit (decimal n) ≡ true
 decimal_digits n h = digits_decimal own n h
 
--- a number that is written is read again
+-- a number that is spelled is read again
 pub number_read : (n : ℕ) → n < 2 ^ 64 → (is_number (decimal n) ≡ true) × (capped_from 0 (decimal n) ≡ n)
 unfolding is_number
 number_read n h =

@@ -1,4 +1,4 @@
--- A text has first faults in one line alone.
+-- All first faults of a text are in one line.
 use Rattle.std.proofs.Common.{◌≡◌, ℕ, ◌+◌, ◌<◌, List, [], ◌∷◌, ◌++◌, length, refl, sym, ap, subst, ◌∙◌, arith}
 use Rattle.std.proofs.Common.{inl, inr, append-nil, append_assoc}
 use Rattle.std.specs.List.{slice_split}
@@ -25,7 +25,7 @@ record HasPlace (bytes : List ℕ) (fault : LineFault) : Type 0 where
   never : (next : List ℕ) (rest : List (List ℕ)) → others ≡ next ∷ rest
       → BeginsScript (text_of (before ++ line ∷ [])) → ⊥
 
--- lines without a fault begin a script, where no block is too large
+-- lines without a fault begin a script, if no block is too large
 no_large : (bytes : List ℕ) (lines : List (List ℕ)) (more : List ℕ) → HasNoLargeBlock bytes
     → bytes ++ 10 ∷ [] ≡ text_of lines ++ more → HaveNoFault lines → BeginsScript (text_of lines)
 no_large bytes lines more small is (inl begins) = begins
@@ -35,7 +35,7 @@ text_more : (lines : List (List ℕ)) (line : List ℕ) → text_of (lines ++ li
 text_more lines line = flat_map-append with_newline lines (line ∷ [])
     ∙ ap (λ (x : List ℕ). text_of lines ++ x) (append-nil (line ++ 10 ∷ []))
 
--- the parts of a line and what stands behind it
+-- the parts of a line and what follows it
 behind_cut : (line behind : List ℕ) → HasNoNewlines line → IsLineEnd behind
     → (others : List (List ℕ)) × (slice_split newline (line ++ behind) ≡ line ∷ others)
 behind_cut line behind own (inl none) = (
@@ -50,7 +50,7 @@ behind_cut line behind own (inr more) = (
       ∙ ap (λ (x : List ℕ). x ∷ slice_split newline more.0) (append-nil line),
 )
 
--- the end of a word stands in its line and the newline behind it
+-- the end of a word is in its line or the newline after it
 word_in_line : (front word back : List ℕ) → IsWordEnd back → (rest : List ℕ) ×
     ((front ++ (word ++ back)) ++ 10 ∷ [] ≡ (front ++ (word ++ byte_behind back ∷ [])) ++ rest)
 word_in_line front word back (inl none) =
@@ -174,7 +174,7 @@ some_behind : (rest more : List (List ℕ)) (y : List ℕ)
 some_behind [] more y = (y, (more, refl))
 some_behind (x ∷ rest) more y = (x, (rest ++ y ∷ more, refl))
 
--- a fault in an earlier line leaves the lines before the later one beginning no script
+-- if a fault is in an earlier line, the lines before the later one don't begin a script
 not_earlier : (bytes : List ℕ) (f g : LineFault) (p : HasPlace bytes f) (q : HasPlace bytes g)
     → length p.before < length q.before → ⊥
 not_earlier bytes f g p q h =

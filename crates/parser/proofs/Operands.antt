@@ -1,4 +1,4 @@
--- An order's operands: what is read is written so, and what is written so is read.
+-- An order's operands: what is read is spelled so, and what is spelled so is read.
 use Rattle.std.proofs.Common.{◌≡◌, ℕ, ◌^◌, ◌<◌, ◌≤◌, Bool, true, false, List, [], ◌++◌, refl, sym, ap, subst, ◌∙◌}
 use Rattle.std.proofs.Common.{arith, lit<}
 use Rattle.std.proofs.Common.{append_assoc}
@@ -23,7 +23,7 @@ use Rattle.parser.proofs.Places.{bind_ok, number_ok, number_again, small_ok, sma
 
 -- ---- bounds
 
--- there is one at least, and the number of them fits 32 bits
+-- a number of at least one, of 32 bits
 abbrev pub IsCount : ℕ → Type 0
 IsCount n = (1 ≤ n) × (n < 2 ^ 32)
 
@@ -85,9 +85,9 @@ operand_again sizes line at Address n ws few is h = address_again line at sizes.
 operand_again sizes line at Percent n ws few is h =
     number_again line at 0 100 n ws (omega (arith, is)) (omega arith) (omega (arith, is)) h
 
--- ---- numbers behind operands
+-- ---- numbers after operands
 
--- more numbers are spelled at a place, where there may be some
+-- more numbers are spelled at a place, if they are allowed
 record AreMoreAt (line : List ℕ) (at : ℕ) (some : Bool) (v : List ℕ × ℕ) : Type 0 where
   spelled : words_from line at ≡ map decimal v.0 ++ words_from line v.1
   fits : AreMore some v.0
@@ -109,11 +109,11 @@ more_again line at true ns is h = numbers_again line at ns (all_to (λ n. n < 2 
 
 -- ---- the operands of an order
 
--- words behind words
+-- words after words
 pub behind : (a x b y c : List (List ℕ)) → a ≡ x ++ b → b ≡ y ++ c → a ≡ (x ++ y) ++ c
 behind a x b y c e f = e ∙ ap (λ (t : List (List ℕ)). x ++ t) f ∙ sym (append_assoc x y c)
 
--- an order of the verb is spelled from a place on, behind its name
+-- an order of the verb is spelled from a place on, after its verb
 pub record IsOrderAt (sizes : Sizes) (line : List ℕ) (at : ℕ) (verb : Verb) (v : Order × ℕ) : Type 0 where
   pub verb_is : v.0.verb ≡ verb
   pub spelled : words_from line at ≡ operand_words (row_of v.0.verb).kinds v.0 ++ words_from line v.1

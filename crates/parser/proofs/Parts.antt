@@ -1,4 +1,4 @@
--- Lines and commands of parts, and commands that stand several times over.
+-- Lines and commands of parts, and commands that are repeated.
 use Rattle.std.proofs.Common.{◌≡◌, ℕ, zero, suc, ◌+◌, ◌*◌, ◌≤◌, List, [], ◌∷◌, ◌++◌, length, Option, Some, None, refl}
 use Rattle.std.proofs.Common.{sym, ap, ◌∙◌, arith, append-nil, append_assoc, length-append, true}
 use Rattle.std.specs.Prelude.{codes, map, ◌==◌}
@@ -16,7 +16,7 @@ abbrev pub open_lines : Option ℕ → List Command → List (List ℕ)
 open_lines None body = []
 open_lines (Some turns) body = times_line_of turns ∷ map command_line_of body
 
--- the open block may be done so often
+-- the open block has a valid number of turns
 abbrev pub HasTurns : Option ℕ → Type 0
 HasTurns None = Unit {0}
 HasTurns (Some turns) = (1 ≤ turns) × (turns ≤ MOST_TURNS)
@@ -99,7 +99,7 @@ say_end front parts turns said line o body some is h =
 
 -- ---- commands
 
--- a part more has its commands more
+-- one more part adds its commands
 pub more_commands : (parts : List Part) (p : Part) (cs : List Command) → cs ≡ flat_map part_commands parts →
     cs ++ part_commands p ≡ flat_map part_commands (parts ++ p ∷ [])
 more_commands parts p cs h = rw (h, flat_map-append part_commands parts (p ∷ []), append-nil (part_commands p)) refl
@@ -124,13 +124,13 @@ pub all_back : {A : Type 0} (P : A → Type 0) (xs ys : List A) → AllByRecursi
 all_back P [] ys h = h
 all_back P (x ∷ xs) ys h = all_back P xs ys h.1
 
--- what holds of commands that stand once at least holds of them
+-- what holds for repeated commands holds for them
 pub all_of_repeated : (P : Command → Type 0) (n : ℕ) (cs : List Command) → 1 ≤ n → AllByRecursion P (repeat n cs)
     → AllByRecursion P cs
 all_of_repeated P zero cs some h = absurd (omega arith)
 all_of_repeated P (suc n) cs some h = all_front P cs (repeat n cs) h
 
--- no commands stay none, however often they stand
+-- repeating no commands gives none
 none_repeated : (n : ℕ) → repeat {A = Command} n [] ≡ []
 none_repeated zero = refl
 none_repeated (suc n) = none_repeated n
@@ -146,7 +146,7 @@ turned (suc n) cs = append_assoc cs (repeat n cs) cs ∙ ap (λ (xs : List Comma
 once_more : (n : ℕ) (cs : List Command) → repeat n cs ++ cs ≡ repeat (n + 1) cs
 once_more n cs = let e : suc n ≡ n + 1 = omega arith in turned n cs ∙ ap (λ k. repeat k cs) e
 
--- one turn more behind the turns so far
+-- one more turn after the turns so far
 pub add_turn : (n : ℕ) (before cs so_far new : List Command) → so_far ≡ before ++ repeat n cs → new ≡ so_far ++ cs
     → new ≡ before ++ repeat (n + 1) cs
 add_turn n before cs so_far new h k = k ∙ ap (λ (xs : List Command). xs ++ cs) h ∙ append_assoc before (repeat n cs) cs

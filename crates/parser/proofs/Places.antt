@@ -1,4 +1,5 @@
--- A place stands for the words from there to the end of the line: what is read there is written so, and the other way.
+-- A place represents the words from there to the end of the line: what is read there is spelled so, and the other way
+-- round.
 use Rattle.std.proofs.Common.{◌≡◌, ℕ, ◌+◌, ◌<◌, ◌≤◌, Bool, true, false, cond, nat_lt, List, [], ◌∷◌, length, drop}
 use Rattle.std.proofs.Common.{Option, Some, None, position, refl, sym, ap, subst, ◌∙◌, arith, inl, inr, ◌-◌, ◌^◌}
 use Rattle.std.proofs.Common.{lit<, ◌⊎◌}
@@ -64,7 +65,7 @@ none_or : {A : Type 0} (b : Bool) (x : A) → cond b None (Some x) ≡ None → 
 none_or true x e = refl
 none_or false x e = absurd cc
 
--- a word that is there is the first of the words from there on
+-- a word that exists is the first of the words from there on
 pub word_is : (line : List ℕ) (at : ℕ) (w : List ℕ × ℕ) → word_at line at ≡ Some w
     → words_from line at ≡ w.0 ∷ words_from line w.1
 unfolding word_at
@@ -74,13 +75,13 @@ word_is line at w h =
     let first = cut_words line at (position space (drop at line)) (ltb-false (length line) at p.0) refl in
     subst (λ (x : List ℕ × ℕ). words_from line at ≡ x.0 ∷ words_from line x.1) p.1 (words_inside line at p.0 ∙ first)
 
--- where there is no word none are left
+-- if there is no word, none are left
 pub no_word_is : (line : List ℕ) (at : ℕ) → word_at line at ≡ None → words_from line at ≡ []
 unfolding word_at
 no_word_is line at h = words_past line at
     (none_or (nat_lt (length line) at) (cut_at line at (drop at line) (position space (drop at line))) h)
 
--- what is read at a place, and the words that are left behind it
+-- what is read at a place, and the words that are left after it
 abbrev pub Reads : {A : Type 0} → List ℕ → Result (A × ℕ) Flaw → A → List (List ℕ) → Type 0
 Reads line r x ws = (after : ℕ) × (r ≡ Ok (x, after)) × (words_from line after ≡ ws)
 
@@ -98,12 +99,12 @@ found_in line at w ws h (Some v) e =
     let parts = cons_is v.0 w (words_from line v.1) ws (sym first ∙ h) in
     (v.1, ap (λ (x : List ℕ). Some (x, v.1)) parts.0, parts.1)
 
--- the first of the words from a place on is there
+-- the first of the words from a place on exists
 pub found_word : (line : List ℕ) (at : ℕ) (w : List ℕ) (ws : List (List ℕ)) → words_from line at ≡ w ∷ ws
     → (after : ℕ) × (word_at line at ≡ Some (w, after)) × (words_from line after ≡ ws)
 found_word line at w ws h = found_in line at w ws h (word_at line at) refl
 
--- the words of a whole line
+-- the words of a complete line
 pub words_whole : (line : List ℕ) → words_from line 0 ≡ slice_split space line
 words_whole line = words_inside line 0 (grind (arith, nat_tests))
 
@@ -126,13 +127,13 @@ pub bind_ok : {A B : Type 0} (r : Result A Flaw) (f : A → Result B Flaw) (y : 
 bind_ok (Ok x) f y e = (x, refl, e)
 bind_ok (Err d) f y e = absurd cc
 
--- a test without which there would have been a fault did hold
+-- a test that would otherwise have been a fault has passed
 pub test_ok : {A : Type 0} (b : Bool) (d : Flaw) (r : Result A Flaw) (y : A) → cond b r (Err d) ≡ Ok y
     → (b ≡ true) × (r ≡ Ok y)
 test_ok true d r y e = (refl, e)
 test_ok false d r y e = absurd cc
 
--- what a choice came to is one of the two
+-- the result of a choice is one of the two
 pub one_of : {A : Type 0} (b : Bool) (x y z : A) → cond b x y ≡ z → ((b ≡ true) × (x ≡ z)) ⊎ ((b ≡ false) × (y ≡ z))
 one_of true x y z h = inl (refl, h)
 one_of false x y z h = inr (refl, h)
@@ -165,7 +166,7 @@ fixed_ok line at text kind after h =
     word_ok line at kind w b.1 ∙ ap (λ (x : List ℕ). x ∷ words_from line w.1) same
     ∙ ap (λ (x : ℕ). text ∷ words_from line x) place
 
--- where a word stands that has to, the place behind it is read
+-- if a required word is there, the place after it is read
 pub fixed_again : (line : List ℕ) (at : ℕ) (text : List ℕ) (kind : FaultKind) (ws : List (List ℕ))
     → words_from line at ≡ text ∷ ws
     → (after : ℕ) × (fixed_at line at text kind ≡ Ok after) × (words_from line after ≡ ws)

@@ -1,4 +1,4 @@
--- Words of bytes behind the space, and lines made of them.
+-- Words of bytes above the space, and lines made of them.
 use Rattle.std.proofs.Common.{◌≡◌, ℕ, ◌^◌, ◌<◌, Bool, true, false, List, [], sym, subst}
 use Rattle.std.proofs.Common.{nat_lt, ◌≢◌, ◌∷◌, ◌++◌, refl, ap, ◌∙◌, arith, inl, inr, append_assoc}
 use Rattle.std.specs.Prelude.{codes, map}
@@ -30,7 +30,7 @@ use Rattle.parser.proofs.Places.{space}
 use Rattle.parser.proofs.Operands.{AreFew, bounds_in}
 use Rattle.parser.proofs.HeapLines.{SpellsSizes}
 
--- each byte of a word stands behind the space: none is a space or a newline
+-- each byte of a word is above the space: none is a space or a newline
 abbrev pub IsPlain : List ℕ → Type 0
 IsPlain w = list_all (λ b. nat_lt 32 b) w ≡ true
 
@@ -76,7 +76,7 @@ none_end (b ∷ bs) h =
 pub none_ends : (line : List ℕ) → HasNoNewlines line → All (λ b. newline b ≡ false) line
 none_ends line h = all_from (λ b. newline b ≡ false) line (none_end line h)
 
--- lines that each end in a newline are the parts of their bytes, with an empty one behind them
+-- lines that each end in a newline are the parts of their bytes, with an empty one after them
 pub lines_split : (lines : List (List ℕ)) → AllByRecursion HasNoNewlines lines
     → slice_split newline (flat_map with_newline lines) ≡ lines ++ [] ∷ []
 lines_split [] h = refl
@@ -144,7 +144,7 @@ order_plain sizes o few is =
 record ArePlain (ws : List (List ℕ)) : Type 0 where
   each : AllByRecursion IsPlain ws
 
--- a number behind its name
+-- a number after its name
 named : (name : List ℕ) (n : ℕ) {rest : List (List ℕ)} → IsPlain name → n < 2 ^ 64 → ArePlain rest
     → ArePlain (name ∷ decimal n ∷ rest)
 named name n plain small h = record { each = (plain, (number_plain n small, h.each)) }

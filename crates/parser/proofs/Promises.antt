@@ -1,4 +1,4 @@
--- What `parse` promises, from what reading gives.
+-- The promises of `parse`, by what reading defines.
 use Rattle.std.proofs.Common.{◌≡◌, ℕ, List, Option, Some, None, IfSome, ap, sym, subst, ◌∙◌}
 use Rattle.std.specs.Prelude.{Result, Ok}
 use Rattle.std.specs.Option.{is_some}
@@ -17,7 +17,7 @@ use Rattle.parser.proofs.SpelledIsRead.{spelled_is_read}
 use Rattle.parser.proofs.SpotPlaces.{spot_stands}
 use Rattle.parser.proofs.SpotTexts.{text_sought}
 
--- what is read keeps to all limits
+-- what is read is within all limits
 pub read_valid : (bytes : List ℕ) (s : ScriptValue) → script_in bytes ≡ Ok s → IsScript s
 read_valid bytes s h = (read_is_spelled bytes s h).script
 
@@ -35,7 +35,7 @@ read_parsed bytes s h e =
           ∙ text_sought sought.Other bytes (script_alone s) all.script all.spelled;
     }
 
--- where a spot is found in a text that spells a script, it is the first one
+-- a spot that is found in a text that spells a script is the first one
 spot_first : (k : Sought) (bytes : List ℕ) (s : ParsedScript) → script_in bytes ≡ Ok (script_alone s)
     → (o : Option LineFault) → first_spot k (slice_split newline bytes) ≡ o → IfSome o (IsFirstSpot k s.config bytes)
 spot_first k bytes s h None e = tt
@@ -67,7 +67,7 @@ spelled_read bytes r s h valid spells = subst (λ x. IsReadOf r x) (spelled_is_r
 ok_is : (s t : ScriptValue) (read : Result ScriptValue LineFault) → read ≡ Ok s → read ≡ Ok t → s ≡ t
 ok_is s t read p q = cc
 
--- two scripts that the same bytes spell are one
+-- two scripts that the same bytes spell are equal
 pub spelled_once : (bytes : List ℕ) (s t : ScriptValue) → IsScript s → IsScript t → Spells bytes s → Spells bytes t
     → s ≡ t
 spelled_once bytes s t s_valid t_valid s_spelled t_spelled =

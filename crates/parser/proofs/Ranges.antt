@@ -1,4 +1,4 @@
--- The sizes of a heap line and the layouts make a configuration that is in range, and the other way.
+-- The sizes of a heap line and the layouts make a configuration that is in range, and the other way round.
 use Rattle.std.proofs.Common.{◌≡◌, ℕ, ◌^◌, ◌≤◌, true, false, List, length, refl, arith}
 use Rattle.std.specs.Prelude.{◌||◌, not}
 use Rattle.std.specs.List.{list_all}
@@ -27,7 +27,7 @@ sizes_in c = record {
   history = c.history;
 }
 
--- some layouts, not too many, each with room in a page
+-- some layouts, not too many, each of which fits in a page
 pub record AreLayouts (words : ℕ) (ls : List Layout) : Type 0 where
   pub some : 1 ≤ length ls
   pub few : length ls ≤ 64
@@ -62,7 +62,7 @@ config_in_range s ls r l = record {
   births = r.births.1;
 }
 
--- the first three fields and those behind them
+-- the first three fields and those after them
 pub record IsInRange (c : Config) : Type 0 where
   pub sizes : IsSizes (sizes_in c)
   pub layouts : AreLayouts c.words c.layouts

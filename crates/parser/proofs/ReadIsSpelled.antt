@@ -1,4 +1,4 @@
--- What was read so far is spelled by the lines that said something, and all limits allow it.
+-- What was read so far is spelled by the lines that aren't empty or comments, within all limits.
 use Rattle.std.proofs.Common.{◌≡◌, ℕ, ◌+◌, ◌<◌, ◌≤◌, true, false, nat_lt, ◌*◌, List}
 use Rattle.std.proofs.Common.{[], ◌∷◌, ◌++◌, length, Option, Some, None, refl, ap, subst}
 use Rattle.std.proofs.Common.{◌∙◌, arith, inl, inr, lit<, append-nil, length-append}
@@ -46,12 +46,12 @@ first_found line None e = let none = no_word_is line 0 e in let whole_line = wor
     let some = split_cons (λ b. b == 32) line in let first = some.is in absurd cc
 first_found line (Some w) e = word_is line 0 w e
 
--- the words of a line are the first one and those behind it
+-- the words of a line are the first one and those after it
 pub first_words : (line : List ℕ) → words_from line 0 ≡ (first_word line).0 ∷ words_from line (first_word line).1
 unfolding first_word
 first_words line = first_found line (word_at line 0) refl
 
--- a line by its first word and what stands behind it
+-- a line by its first word and what follows it
 pub line_by_words : (line w : List ℕ) (ws : List (List ℕ)) → (first_word line).0 ≡ w
     → words_from line (first_word line).1 ≡ ws → line ≡ line_of (w ∷ ws)
 line_by_words line w ws first rest =
@@ -60,12 +60,12 @@ line_by_words line w ws first rest =
 
 -- ---- what was read so far
 
--- before a command or a block has begun there is none
+-- before a command or a block has begun there are no parts
 pub record IsFresh (r : ReadSoFar) (parts : List Part) : Type 0 where
   pub no_parts : parts ≡ []
   pub no_block : r.turns ≡ None
 
--- behind the heap line: the lines that said something spell what was read, and it is in range
+-- after the heap line: the lines that aren't empty or comments spell what was read, and it is in range
 pub record IsBehind (said : List (List ℕ)) (r : ReadSoFar) : Type 0 where
   pub sizes : Sizes
   pub sizes_is : r.sizes ≡ Some sizes
@@ -86,12 +86,12 @@ pub record IsBehind (said : List (List ℕ)) (r : ReadSoFar) : Type 0 where
   pub body : AllByRecursion (IsCommand (config_of sizes [])) r.body
   pub count : length r.commands ≤ MOST_COMMANDS
 
--- before the heap line nothing was said
+-- before the heap line all lines are empty or comments
 pub record IsBefore (said : List (List ℕ)) (r : ReadSoFar) : Type 0 where
   pub said_is : said ≡ []
   pub is : r ≡ nothing
 
--- what was read, behind the lines that said something
+-- what was read, after the lines that aren't empty or comments
 abbrev pub Said : List (List ℕ) → ReadSoFar → Type 0
 Said said r = IsBefore said r ⊎ IsBehind said r
 
@@ -164,7 +164,7 @@ room_more words ls l h is room =
 pub some_layouts : (ls : List Layout) → (length ls == 0) ≡ false → 1 ≤ length ls
 some_layouts ls h = grind (arith, nat_tests)
 
--- ---- a line behind the heap line
+-- ---- a line after the heap line
 
 module _ (said : List (List ℕ)) (r : ReadSoFar) (b : IsBehind said r) (line : List ℕ) where
   layout_step : (t : ReadSoFar) → (first_word line).0 ≡ codes "layout" → r.begun ≡ false

@@ -1,5 +1,5 @@
--- Three readers one behind another. What they read is written so, what is written so they read, and where they break
--- off the words before are the first ones of something right.
+-- Three readers one after another. What they read is spelled so, what is spelled so they read, and when they break
+-- off at a fault, the words before it begin a correct spelling.
 use Rattle.std.proofs.Common.{◌≡◌, ℕ, List, [], ◌++◌, refl, sym, ap, subst, ◌∙◌, inl, inr, append-nil, append_assoc}
 use Rattle.std.specs.Prelude.{Result, Ok, Err}
 use Rattle.model.proofs.Results.{same_result}
@@ -25,7 +25,7 @@ pub record IsReadAt {A : Type 0} (Spells : A → List (List ℕ) → Type 0) (li
     pub is : Spells v.0 words
     pub spelled : words_from line at ≡ words ++ words_from line v.1
 
--- a value is spelled by words, of which a fault stands behind the first ones
+-- a value is spelled by words, of which a prefix is before a fault
 pub record BreaksIn {A : Type 0} (Spells : A → List (List ℕ) → Type 0) (line : List ℕ) (at : ℕ) (f : Flaw) : Type 0
   where
     pub value : A
@@ -33,7 +33,7 @@ pub record BreaksIn {A : Type 0} (Spells : A → List (List ℕ) → Type 0) (li
     pub is : Spells value words
     pub breaks : Breaks line at f words
 
--- a reader of values that words spell, where such words as may do so follow
+-- a reader of values that words spell, if the words after them are allowed there
 pub record IsReader {A : Type 0} (read : List ℕ → ℕ → Result (A × ℕ) Flaw) (Spells : A → List (List ℕ) → Type 0)
     (May : List (List ℕ) → Type 0) : Type 0 where
   pub some : IsSpelled Spells

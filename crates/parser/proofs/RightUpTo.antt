@@ -65,7 +65,7 @@ same_front line front rest spaced more is other size =
     sym (take-append_seam front rest) ∙ ap (λ (x : List ℕ). take (length front) x) (sym is ∙ other)
     ∙ ap (λ (k : ℕ). take k (spaced ++ more)) size ∙ take-append_seam spaced more
 
--- the bytes before a fault are the words before it, with a space behind them, or without one where a word is missing
+-- the bytes before a fault are the words before it, followed by a space, unless a word is missing
 front_of : (line : List ℕ) (f : Flaw) (p : IsFaultAt line f) (w : List ℕ) (ws tail : List (List ℕ))
     → words_from line 0 ≡ (w ∷ ws) ++ tail → IsTail line f tail
     → (p.front ≡ line_of (w ∷ ws) ++ 32 ∷ []) ⊎ (p.front ≡ line_of (w ∷ ws))
@@ -99,7 +99,7 @@ front_of line f p w ws tail e (inl there) =
     inl (same_front line p.front (p.word ++ p.back) (words ++ 32 ∷ []) (drop place line) p.is.line_is spaced
     (omega arith))
 
--- a wrong line behind lines that are taken: its fault stands behind its first word
+-- a line with a fault after lines that are accepted: the fault is after its first word
 record IsBroken (before : List (List ℕ)) (line : List ℕ) (t : ReadSoFar) (f : Flaw) : Type 0 where
   each : AllByRecursion HasNoNewlines before
   so_far : Said (filter says_something before) t
@@ -115,7 +115,7 @@ said_behind before line t u so_far h =
     ∙ sym (filter-append says_something before (line ∷ [])))
     (line_ok (filter says_something before) t u line so_far h)
 
--- a fault that was made at column 1
+-- a fault at column 1
 first_made : {A : Type 0} (kind : FaultKind) (f : Flaw) → ◌≡◌ {A = Result A Flaw} (Err (flaw 0 kind)) (Err f)
     → f.column ≡ 1
 first_made {A} kind f h = ap (λ (x : Flaw). x.column) (sym (same_flaw {A = A} (flaw 0 kind) f h))
@@ -137,7 +137,7 @@ first_judged line kind place judge f judged h =
 abbrev as_actor : (ℕ → Actor) → ℕ × ℕ → Result (Actor × ℕ) Flaw
 as_actor made w = Ok (made w.0, w.1)
 
--- an actor's fault stands at column 1
+-- an actor's fault is at column 1
 named_first : (line : List ℕ) (letter count : ℕ) (made : ℕ → Actor) (f : Flaw)
     → (named_at line 0 letter count kinds.NoSuchActor >>= as_actor made) ≡ Err f
     → IsAbsent 0 letter kinds.NoSuchActor → f.column ≡ 1
@@ -166,7 +166,7 @@ actor_idle : (actor : Actor) (ws : List (List ℕ)) → is_idle (line_of (actor_
 actor_idle (Thread t) ws = joined_idle 116 (decimal t) ws refl
 actor_idle (Worker w) ws = joined_idle 119 (decimal w) ws refl
 
--- ---- a wrong line
+-- ---- a line with a fault
 
 module _ (before : List (List ℕ)) (line : List ℕ) (r : ReadSoFar) (f : Flaw) (b : IsBroken before line r f) where
   mended : (u : ReadSoFar) (w : List ℕ) (after : ℕ) (full : List (List ℕ))
@@ -187,7 +187,7 @@ module _ (before : List (List ℕ)) (line : List ℕ) (r : ReadSoFar) (f : Flaw)
         faultless = subst (λ (x : List (List ℕ)). HaveNoFault (before ++ line_of (w ∷ x) ∷ [])) breaks.full_is none;
       }
 
-  -- no fault at column 1 stands behind a first word
+  -- no fault at column 1 is after a first word
   not_first : f.column ≡ 1 → ⊥
   not_first column = let place = b.at.column in b.some (no_bytes b.at.front (omega arith))
 

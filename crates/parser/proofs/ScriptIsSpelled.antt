@@ -1,4 +1,4 @@
--- What is read to the end is a script that all limits allow, and is spelled by the bytes.
+-- What is read to the end is a script within all limits that the bytes spell.
 use Rattle.std.proofs.Common.{◌≡◌, ℕ, ◌+◌, Bool, true, false, cond, List}
 use Rattle.std.proofs.Common.{[], ◌∷◌, ◌++◌, length, Option, Some, None, refl, sym, ap, subst}
 use Rattle.std.proofs.Common.{◌∙◌, arith, inl, inr, append-nil, append_assoc}
@@ -93,7 +93,7 @@ finished_ok n said r s (inr b) h =
 
 -- ---- all lines
 
--- the lines of what is left, and what they say behind what was said
+-- the remaining lines, and what they spell after the lines before
 record IsReadFrom (said : List (List ℕ)) (parts : List (List ℕ)) (s : ScriptValue) : Type 0 where
   lines : List (List ℕ)
   parts_are : parts ≡ lines ++ [] ∷ []
@@ -137,7 +137,7 @@ lines_ok n said r line (next ∷ more) s so_far h =
           (λ (x : List (List ℕ)). said ++ x) (sym (filter_told says_something line rest.lines))) rest.all_told;
     }
 
--- what is read of bytes is a script that all limits allow, and the bytes spell it
+-- what is read from bytes is a script within all limits, and the bytes spell it
 pub record IsSpelled (bytes : List ℕ) (s : ScriptValue) : Type 0 where
   pub script : IsScript s
   pub spelled : Spells bytes s

@@ -1,4 +1,4 @@
--- What is spelled by the bytes, and within all limits, is read.
+-- What the bytes spell within all limits is read.
 use Rattle.std.proofs.Common.{◌≡◌, ℕ, ◌+◌, ◌*◌, ◌≤◌, Bool, true, false, List}
 use Rattle.std.proofs.Common.{[], ◌∷◌, ◌++◌, length, Option, Some, None, refl, sym, ap, subst}
 use Rattle.std.proofs.Common.{◌∙◌, arith, inl, inr, append-nil, append_assoc, length-append}
@@ -33,7 +33,7 @@ use Rattle.parser.proofs.TakenLines.{IsReady, command_taken, times_taken, end_ta
 
 -- ---- all lines
 
--- a first line says nothing, or is the first that says something
+-- a first line is empty or a comment, or the first that isn't
 told_first : (line : List ℕ) (lines xs : List (List ℕ))
     → filter says_something (line ∷ lines) ≡ xs → ((is_idle line ≡ true) × (filter says_something lines ≡ xs))
     ⊎ ((is_idle line ≡ false) × (line ∷ filter says_something lines ≡ xs))
@@ -48,7 +48,7 @@ tail_is_cons : (lines : List (List ℕ)) → IsCons (lines ++ [] ∷ [])
 tail_is_cons [] = record { first = []; others = []; is = refl }
 tail_is_cons (line ∷ lines) = record { first = line; others = lines ++ [] ∷ []; is = refl }
 
--- a line that is taken leads to the lines behind it
+-- a line that is accepted is followed by the others
 goes : (n : ℕ) (r t : ReadSoFar) (line : List ℕ) (lines : List (List ℕ)) → line_in r line ≡ Ok t →
     lines_in n r (line ∷ (lines ++ [] ∷ [])) ≡ lines_in (n + 1) t (lines ++ [] ∷ [])
 goes n r t line lines h = lines_cons n r line (lines ++ [] ∷ []) (tail_is_cons lines) ∙ rw h refl
@@ -67,22 +67,22 @@ end_read n z r ready some none =
 
 -- ---- parts
 
--- the lines that are left: of the open block and of the parts behind it
+-- the remaining lines: of the open block and of the parts after it
 abbrev lines_left : Option ℕ → List Command → List Part → List (List ℕ)
 lines_left None cs parts = flat_map part_lines parts
 lines_left (Some n) cs parts = map command_line_of cs ++ codes "end" ∷ flat_map part_lines parts
 
--- the commands, where this is left
+-- the commands, if this remains
 abbrev commands_with : ReadSoFar → Option ℕ → List Command → List Part → List Command
 commands_with r None cs parts = r.commands ++ flat_map part_commands parts
 commands_with r (Some n) cs parts = (r.commands ++ repeat n (r.body ++ cs)) ++ flat_map part_commands parts
 
--- a part's commands are there, and a block is not done too often
+-- a part's commands exist, and a block has a valid number of turns
 abbrev IsPartOf : Sizes → Part → Type 0
 IsPartOf z (One c) = IsCommand (config_of z []) c
 IsPartOf z (Times n cs) = AllByRecursion (IsCommand (config_of z [])) cs × ((1 ≤ n) × (n ≤ MOST_TURNS))
 
--- what was read, and what is left to lead to all commands
+-- what was read, and what remains to be read until all commands are
 record IsLeft (z : Sizes) (r : ReadSoFar) (o : Option ℕ) (cs : List Command) (parts : List Part) (all : List Command) :
     Type 0 where
   ready : IsReady z r
@@ -110,7 +110,7 @@ fits_block cs body ds all n e h =
     ∙ ap (λ (k : ℕ). length cs + k) (repeated_length n body) in
     omega (arith, long, front, h)
 
--- all lines behind the layout lines
+-- all lines after the layout lines
 parts_read : (n : ℕ) (z : Sizes)
     (lines : List (List ℕ)) (r : ReadSoFar) (o : Option ℕ) (cs : List Command) (parts : List Part) (all : List Command)
     → IsLeft z r o cs parts all → filter says_something lines ≡ lines_left o cs parts
@@ -225,7 +225,7 @@ parts_read n z (line ∷ lines) r (Some m) (c ∷ cs) parts all left said =
 
 -- ---- the layout lines and the heap line
 
--- layouts that fit, not too many behind those that were read
+-- layouts that fit, not too many after those that were read
 record AreNext (z : Sizes) (r : ReadSoFar) (ls : List Layout) : Type 0 where
   some : 1 ≤ length r.layouts + length ls
   few : length r.layouts + length ls ≤ MOST_LAYOUTS
@@ -244,7 +244,7 @@ record AreAll (z : Sizes) (parts : List Part) (all : List Command) : Type 0 wher
   all_is : flat_map part_commands parts ≡ all
   count : length all ≤ MOST_COMMANDS
 
--- where no layouts are left the parts follow
+-- if no layouts are left, the parts follow
 no_more : (n : ℕ) (z : Sizes) (lines : List (List ℕ)) (r : ReadSoFar) (parts : List Part) (all : List Command)
     → IsReady z r → IsFresh r
     → AreNext z r [] → AreAll z parts all → filter says_something lines ≡ flat_map part_lines parts
@@ -327,7 +327,7 @@ commands_of c (x ∷ xs) h =
     actor_of c (Thread t) h = h
     actor_of c (Worker w) h = h
 
--- the parts of commands that are there
+-- the parts of commands that exist
 parts_of : (z : Sizes) (parts : List Part) → AllByRecursion IsPart parts
     → AllByRecursion (IsCommand (config_of z [])) (flat_map part_commands parts) → AllByRecursion (IsPartOf z) parts
 parts_of z [] h each = tt

@@ -1,4 +1,4 @@
--- The line of a command is one that is sought exactly where the command is.
+-- The line of a command is searched for exactly if the command is.
 use Rattle.std.proofs.Common.{◌≡◌, ℕ, ◌^◌, ◌<◌, true, false, List, [], ◌∷◌, refl, ap, sym, ◌∙◌, arith}
 use Rattle.std.proofs.Common.{inl, inr, get_or, subst}
 use Rattle.std.specs.Prelude.{◌==◌, not, codes}
@@ -25,7 +25,7 @@ use Rattle.parser.proofs.ActorsAndOrders.{first_is}
 use Rattle.parser.proofs.Plain.{actor_plain, order_plain}
 use Rattle.parser.proofs.TakenLines.{HasWords, words_are, not_equal, tail_is}
 
--- the word of a verb is a cycle's exactly where a cycle follows the verb's step
+-- the word of a verb is a cycle's exactly if a cycle follows the verb's step
 cycle_word : (verb : Verb) → is_cycle_word (row_of verb).text ≡ is_cycles (then_with verb)
 cycle_word verb = grind arith
 
@@ -61,7 +61,7 @@ two_words line actor verb ws h =
     let found = found_word line (first_word line).1 verb ws h.rest in
     record { first = h.first; second = ap (λ x. (first_word_in x).0) found.1 }
 
--- a line whose first byte is another than a worker's isn't sought
+-- a line that begins with another letter than a worker's isn't searched for
 pub other_start : (s : Sought) (line : List ℕ) → (first_byte line == 119) ≡ false → is_sought s line ≡ false
 other_start sought.Cycle line h = rw h refl
 other_start sought.Other line h = rw h refl

@@ -1,4 +1,4 @@
--- Where the first commands stand that not every run does, worked out for small texts.
+-- The places of the first commands that not every kind of run does, in small texts.
 use Rattle.std.proofs.Common.{◌≡◌, ℕ, [], ◌∷◌, Option, Some, None, refl}
 use Rattle.std.specs.Prelude.{codes}
 use Rattle.parser.specs.declared.fault.FaultKind.{FaultKind}
@@ -23,13 +23,13 @@ a_block : spots_in (text_of (codes "# w1 mark" ∷ [] ∷ codes "times 2" ∷ co
 unfolding spots_in first_spot second_word first_word word_at
 a_block = refl
 
--- the first part of a cycle by another worker than 0 is both
+-- the first half of a cycle by another worker than 0 is both
 a_roll : spots_in (text_of (codes "t0 take 1" ∷ codes "w10 roll 5" ∷ codes "w0 cycle 100" ∷ codes "w0 mark" ∷ []))
     ≡ both (at 2 5 kinds.CycleNeedsThreads) (at 2 5 kinds.UnknownWord)
 unfolding spots_in first_spot second_word first_word word_at
 a_roll = refl
 
--- no cycle, and a command that each run on one thread does
+-- no cycle, and a command that any run on one thread does
 a_mark : spots_in (text_of (codes "t0 take 1" ∷ codes "w0 mark" ∷ codes "w1 mark" ∷ []))
     ≡ both None (at 2 4 kinds.UnknownWord)
 unfolding spots_in first_spot second_word first_word word_at

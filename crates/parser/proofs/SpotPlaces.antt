@@ -1,4 +1,4 @@
--- Where the first line stands that is sought, in words of a text, its lines and a command.
+-- The place of the first line that is searched for, by a text, its lines and a command.
 use Rattle.std.proofs.Common.{◌≡◌, ℕ, ◌+◌, Bool, true, false, cond, List, [], ◌∷◌, ◌++◌, length, Some, refl, ap, sym}
 use Rattle.std.proofs.Common.{◌∙◌, arith, subst, append_assoc, inr}
 use Rattle.std.specs.Prelude.{map, filter, codes}
@@ -30,7 +30,7 @@ use Rattle.parser.proofs.WordPlaces.{word_place}
 
 -- ---- the line that is found
 
--- lines up to the first one that is sought, and those behind it
+-- lines up to the first one that is searched for, and those after it
 record IsFound (s : Sought) (n : ℕ) (lines : List (List ℕ)) (fault : LineFault) : Type 0 where
   before : List (List ℕ)
   line : List ℕ
@@ -79,7 +79,7 @@ found s n (line ∷ lines) fault h = by_test (is_sought s line) refl (found s (n
         found_here s n line lines fault e (same_Some _ fault (sym (met s n line lines e) ∙ h))
     by_test false e later = found_next s n line lines fault e (later (sym (passed s n line lines e) ∙ h))
 
--- the empty part behind the last newline isn't sought
+-- the empty part after the last newline isn't searched for
 without_last : (s : Sought) (n : ℕ) (lines : List (List ℕ))
     → first_from s n (lines ++ [] ∷ []) ≡ first_from s n lines
 without_last s n [] =
@@ -92,7 +92,7 @@ without_last s n (line ∷ lines) = by_test (is_sought s line) refl (without_las
     by_test true e later = met s n line (lines ++ [] ∷ []) e ∙ sym (met s n line lines e)
     by_test false e later = passed s n line (lines ++ [] ∷ []) e ∙ later ∙ sym (passed s n line lines e)
 
--- ---- a line that is sought is a command's
+-- ---- a line that is searched for is a command's
 
 record IsCommandLine (s : Sought) (config : Config) (line : List ℕ) : Type 0 where
   command : Command
@@ -100,7 +100,7 @@ record IsCommandLine (s : Sought) (config : Config) (line : List ℕ) : Type 0 w
   line_is : line ≡ command_line_of command
   is : is_sought_command s command ≡ true
 
--- a line that is sought spells a command
+-- a line that is searched for spells a command
 abbrev Tells : Sought → Config → List ℕ → Type 0
 Tells s config line = is_sought s line ≡ true → IsCommandLine s config line
 
@@ -151,7 +151,7 @@ layouts_tell s config [] = tt
 layouts_tell s config (l ∷ ls) =
     (other_tells s config (layout_line_of l) (other_start s (layout_line_of l) refl), layouts_tell s config ls)
 
--- what holds of the lines that say something holds of all, where it holds of each that says nothing
+-- what holds for the lines that aren't empty or comments holds for all, if it holds for each that is
 all_of_said : (P : List ℕ → Type 0) → ((line : List ℕ) → says_something line ≡ false → P line)
     → (lines : List (List ℕ)) → AllByRecursion P (filter says_something lines) → AllByRecursion P lines
 all_of_said P idle [] h = tt
@@ -164,7 +164,7 @@ all_of_said P idle (line ∷ lines) h = by_test (says_something line) refl (all_
     by_test true e later k = (k.0, later k.1)
     by_test false e later k = (idle line e, later k)
 
--- each line of a text that is sought spells a command
+-- each line of a text that is searched for spells a command
 lines_tell : (s : Sought) (bytes : List ℕ) (t : ScriptValue) → IsScript t → (h : Spells bytes t)
     → AllByRecursion (Tells s t.config) h.lines
 lines_tell s bytes t is h =
@@ -182,7 +182,7 @@ lines_tell s bytes t is h =
 
 -- ---- the place
 
--- the verb's word stands behind the actor's
+-- the verb's word follows the actor's
 second_at : (config : Config) (c : Command) → IsScriptConfig config → IsCommand config c
     → (first_word (command_line_of c)).1 ≡ length (actor_word c.actor) + 1
 unfolding first_word
@@ -211,7 +211,7 @@ text_at before after line other e =
     ∙ ap (λ (x : List ℕ). flat_map with_newline before ++ x)
     (append_assoc other (10 ∷ []) (flat_map with_newline after))
 
--- the first line that is sought, of a text that spells a script
+-- the first line that is searched for, of a text that spells a script
 pub spot_stands : (s : Sought) (bytes : List ℕ) (t : ScriptValue) (fault : LineFault) → IsScript t → Spells bytes t
     → first_spot s (slice_split newline bytes) ≡ Some fault → IsFirstSpot s t.config bytes fault
 spot_stands s bytes t fault is h e =

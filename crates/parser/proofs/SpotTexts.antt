@@ -1,4 +1,4 @@
--- A text has a line that is sought exactly where the script that it spells has such a command.
+-- A text has a line that is searched for exactly if the script that it spells has such a command.
 use Rattle.std.proofs.Common.{◌≡◌, ℕ, zero, suc, ◌+◌, ◌≤◌, Bool, true, false, List, [], ◌∷◌, ◌++◌, refl, ap, sym, ◌∙◌}
 use Rattle.std.proofs.Common.{arith}
 use Rattle.std.proofs.Common.{subst}
@@ -31,7 +31,7 @@ use Rattle.parser.proofs.SpotCommands.{command_sought, other_start}
 
 -- ---- lines
 
--- there is a first one exactly where there is one
+-- there is a first one exactly if there is one
 pub spot_there : (s : Sought) (n : ℕ) (lines : List (List ℕ))
     → is_some (first_from s n lines) ≡ list_any (is_sought s) lines
 spot_there s n [] = ap is_some (no_line s n)
@@ -54,7 +54,7 @@ or_same false = refl
 pub empty_line : (s : Sought) → is_sought s [] ≡ false
 empty_line s = other_start s [] refl
 
--- a line that is sought says something
+-- a line that is searched for isn't empty or a comment
 pub sought_says : (s : Sought) (line : List ℕ) → is_sought s line ≡ true → says_something line ≡ true
 sought_says s [] h = absurd (both (empty_line s) h)
   where
@@ -138,9 +138,9 @@ layouts_none s (l ∷ ls) =
 pub heap_none : (s : Sought) (heap : List ℕ) (c : Config) → SpellsHeap heap c → is_sought s heap ≡ false
 heap_none s heap c h = other_start s heap (ap (λ (x : List ℕ). first_byte x == 119) h.line_is)
 
--- ---- a whole text
+-- ---- a complete text
 
--- a line is sought exactly where a command is
+-- a line is searched for exactly if a command is
 pub text_sought : (s : Sought) (bytes : List ℕ) (t : ScriptValue) → IsScript t → Spells bytes t
     → is_some (first_spot s (slice_split newline bytes)) ≡ list_any (is_sought_command s) t.commands
 text_sought s bytes t is h =

@@ -1,4 +1,4 @@
--- Where reading stops, and that what begins with lines that are taken and one that isn't is no script.
+-- Where reading stops, and that a text of accepted lines and a line with a fault isn't a script.
 use Rattle.std.proofs.Common.{◌≡◌, ◌≢◌, ℕ, ◌+◌, false, List, [], ◌∷◌, ◌++◌, length, refl, sym, ap, subst, ◌∙◌, arith}
 use Rattle.std.proofs.Common.{inl, inr, append-nil, append_assoc, ◌<◌, ◌≤◌, true, length-append}
 use Rattle.std.specs.Prelude.{Result, Ok, Err, ◌==◌, ◌⊎◌, filter}
@@ -21,7 +21,7 @@ use Rattle.parser.proofs.Alike.{IsLate, alike_spaced}
 use Rattle.parser.proofs.AlikeLines.{line_taken}
 use Rattle.parser.proofs.SpelledIsRead.{spelled_is_read}
 
--- the lines are taken one after another, and lead from what was read to what is read then
+-- the lines are accepted one after another, and lead from what was read to what is read then
 abbrev pub Leads : List (List ℕ) → ReadSoFar → ReadSoFar → Type 0
 Leads [] r t = r ≡ t
 Leads (line ∷ lines) r t = (u : ReadSoFar) × ((line_in r line ≡ Ok u) × Leads lines u t)
@@ -40,7 +40,7 @@ cons_behind : (lines more : List (List ℕ)) → IsCons more → IsCons (lines +
 cons_behind [] more h = h
 cons_behind (line ∷ lines) more h = record { first = line; others = lines ++ more; is = refl }
 
--- a script that is read of lines is read of what stands behind the lines that are taken
+-- a script that is read from lines is read from those after the lines that are accepted
 pub read_behind : (lines more : List (List ℕ)) (n : ℕ) (r t : ReadSoFar) (s : ScriptValue) → IsCons more
     → Leads lines r t → lines_in n r (lines ++ more) ≡ Ok s → (m : ℕ) × (lines_in m t more ≡ Ok s)
 read_behind [] more n r t s some h e = (n, subst (λ (x : ReadSoFar). lines_in n x more ≡ Ok s) h e)
@@ -56,19 +56,19 @@ read_behind (line ∷ lines) more n r t s some h e =
 abbrev pub fault_in : ℕ → Flaw → LineFault
 fault_in n flaw = record { line = n; column = flaw.column; kind = flaw.kind }
 
--- a line, of number n, isn't taken
+-- a line, of number n, is rejected
 pub record IsWrong (n : ℕ) (r : ReadSoFar) (line : List ℕ) (fault : LineFault) : Type 0 where
   pub flaw : Flaw
   pub wrong : line_in r line ≡ Err flaw
   pub fault_is : fault_in n flaw ≡ fault
 
--- nothing stands behind the lines, of which n would be the next, and something is missing
+-- nothing follows the lines, of which n would be the next, and something is missing
 pub record IsMissing (n : ℕ) (r : ReadSoFar) (line : List ℕ) (others : List (List ℕ)) (fault : LineFault) : Type 0 where
   pub no_line : line ≡ []
   pub last : others ≡ []
   pub missing : finished n r ≡ Err fault
 
--- the last line is taken, but no newline stands behind it
+-- the last line is accepted, but has no newline
 pub record IsUnended (n : ℕ) (r : ReadSoFar) (line : List ℕ) (others : List (List ℕ)) (fault : LineFault) : Type 0 where
   pub state : ReadSoFar
   pub some : line ≢ []
@@ -81,7 +81,7 @@ abbrev pub Why : ℕ → ReadSoFar → List ℕ → List (List ℕ) → LineFaul
 Why n r line others fault =
     (IsWrong n r line fault ⊎ IsMissing n r line others fault) ⊎ IsUnended n r line others fault
 
--- reading stops behind lines that are taken
+-- reading stops after lines that are accepted
 pub record StopsAt (n : ℕ) (r : ReadSoFar) (lines : List (List ℕ)) (fault : LineFault) : Type 0 where
   pub before : List (List ℕ)
   pub line : List ℕ
@@ -164,7 +164,7 @@ stops n r line (next ∷ more) fault h =
           }
     ]
 
--- the text of lines, with bytes behind it, has these lines and then the lines of those bytes
+-- the text of lines, with bytes after it, has these lines and then the lines of those bytes
 pub text_split : (lines : List (List ℕ)) (more : List ℕ) → AllByRecursion HasNoNewlines lines
     → slice_split newline (text_of lines ++ more) ≡ lines ++ slice_split newline more
 text_split [] more h = refl
@@ -174,7 +174,7 @@ text_split (line ∷ lines) more h =
     ∙ slice_split_at newline line 10 (text_of lines ++ more) (none_ends line h.0) refl
     ∙ ap (λ (x : List (List ℕ)). line ∷ x) (text_split lines more h.1)
 
--- bytes without a newline stand before the first line of what stands behind them
+-- bytes without a newline are before the first line of what follows them
 pub line_more : (front more first : List ℕ) (others : List (List ℕ)) → HasNoNewlines front
     → slice_split newline more ≡ first ∷ others → slice_split newline (front ++ more) ≡ (front ++ first) ∷ others
 line_more [] more first others h e = e
@@ -195,7 +195,7 @@ not_taken n r line (next ∷ others) flaw s some wrong h =
     wrong h in
     absurd cc
 
--- a text that begins with lines that are taken, and goes on with a line that isn't, is no script
+-- a text that begins with lines that are accepted, and continues with a line that is rejected, is no script
 not_read : (before : List (List ℕ)) (front more first : List ℕ) (others : List (List ℕ)) (t : ReadSoFar) (flaw : Flaw)
     (s : ScriptValue) → AllByRecursion HasNoNewlines before → HasNoNewlines front → Leads before nothing t
     → slice_split newline more ≡ first ∷ others → line_in t (front ++ first) ≡ Err flaw
@@ -216,13 +216,13 @@ not_read before front more first others t flaw s each own leads cut wrong some v
 some_line : (front back : List ℕ) (b : ℕ) → (length (front ++ b ∷ back) == 0) ≡ false
 some_line front back b = let long = length-append front (b ∷ back) in grind (arith, nat_tests)
 
--- an idle line is taken
+-- an idle line is accepted
 some_wrong : (t : ReadSoFar) (line : List ℕ) (flaw : Flaw) → line_in t line ≡ Err flaw → (length line == 0) ≡ false
 unfolding line_in
 some_wrong t [] flaw h = absurd cc
 some_wrong t (b ∷ bs) flaw h = grind (arith, nat_tests)
 
--- a line whose last word is wrong
+-- a line whose last word has a fault
 never_behind_line : (before : List (List ℕ)) (line : List ℕ) (t : ReadSoFar) (flaw : Flaw)
     → AllByRecursion HasNoNewlines before → HasNoNewlines line → Leads before nothing t → line_in t line ≡ Err flaw
     → BeginsScript (text_of before ++ (line ++ 10 ∷ [])) → ⊥
@@ -237,7 +237,7 @@ never_behind_line before line t flaw each own leads wrong begins =
     (subst (λ (x : List ℕ). (length x == 0) ≡ false) (sym same) (some_wrong t line flaw wrong))
     begins.valid (subst (λ (x : List ℕ). Spells x begins.script) bytes begins.spelled)
 
--- a line with a wrong word before a space
+-- a line whose word before a space has a fault
 never_behind_word : (before : List (List ℕ)) (front back : List ℕ) (t : ReadSoFar) (flaw : Flaw)
     → AllByRecursion HasNoNewlines before → HasNoNewlines front → Leads before nothing t
     → (t.begun ≡ true → 1 ≤ length t.layouts) → line_in t (front ++ 32 ∷ back) ≡ Err flaw
@@ -265,7 +265,7 @@ never_behind_word before front back t flaw each own leads started wrong early be
         let behind : n < flaw.column = subst (IsLate (λ (t : ReadSoFar). length line + 1) n) is late in
         absurd (omega arith)
 
--- up to a wrong word's end, with the byte behind it, bytes begin no script
+-- up to the end of a word with a fault, and the byte after it, bytes begin no script
 pub never_begins : (before : List (List ℕ)) (line front word back : List ℕ) (t : ReadSoFar) (flaw : Flaw)
     → AllByRecursion HasNoNewlines before → HasNoNewlines line → Leads before nothing t
     → (t.begun ≡ true → 1 ≤ length t.layouts) → line_in t line ≡ Err flaw → line ≡ front ++ (word ++ back)

@@ -1,4 +1,4 @@
--- A line that is spelled right, and within all limits, is taken.
+-- A line that is spelled correctly, within all limits, is accepted.
 use Rattle.std.proofs.Common.{◌≡◌, ℕ, ◌+◌, ◌*◌, ◌^◌, ◌<◌, ◌≤◌, Bool, true, false, nat_lt, List, subst}
 use Rattle.std.proofs.Common.{[], ◌∷◌, ◌++◌, length, Option, Some, None, refl, sym, ap, ◌∙◌, arith}
 use Rattle.std.specs.Prelude.{Ok, ◌==◌, codes}
@@ -32,7 +32,7 @@ use Rattle.parser.proofs.HeapLines.{IsSizes, SpellsSizes, heap_again, layout_aga
 use Rattle.parser.proofs.ReadIsSpelled.{first_words, few_actors}
 use Rattle.parser.proofs.Plain.{IsPlain, words_split, number_plain, actor_plain, order_plain, sizes_plain}
 
--- a line of plain words has this first word and these behind it
+-- a line of plain words has this first word and these after it
 pub record HasWords (line w : List ℕ) (ws : List (List ℕ)) : Type 0 where
   pub all : words_from line 0 ≡ w ∷ ws
   pub first : (first_word line).0 ≡ w
@@ -45,12 +45,12 @@ words_are line w ws is first rest =
     let parts = cons_is (first_word line).0 w (words_from line (first_word line).1) ws (sym (first_words line) ∙ all) in
     record { all = all; first = parts.0; rest = parts.1 }
 
--- behind the heap line
+-- after the heap line
 pub record IsReady (z : Sizes) (r : ReadSoFar) : Type 0 where
   pub sizes_is : r.sizes ≡ Some z
   pub range : IsSizes z
 
--- no actor's word is a line's word
+-- an actor's word isn't a keyword
 record IsNoLineWord (w : List ℕ) : Type 0 where
   layout : bytes_eq w (codes "layout") ≡ false
   times : bytes_eq w (codes "times") ≡ false
@@ -85,7 +85,7 @@ said_line : (r : ReadSoFar) (z : Sizes) (line : List ℕ) → is_idle line ≡ f
 unfolding line_in
 said_line r z line idle sizes_is = rw idle (ap (λ (o : Option Sizes). line_after r o line) sizes_is)
 
--- behind the layout lines, where the line's first word is no layout line's
+-- after the layout lines, if the line's first word is no layout line's
 part_taken : (z : Sizes) (r : ReadSoFar) (line w : List ℕ) → IsReady z r → 1 ≤ length r.layouts → is_idle line ≡ false
     → (first_word line).0 ≡ w → bytes_eq w (codes "layout") ≡ false → line_in r line ≡ part_line r z line
 unfolding later_line

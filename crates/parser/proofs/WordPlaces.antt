@@ -1,4 +1,4 @@
--- Words between two parts of a line, and the places before and behind them.
+-- Words between two parts of a line, and the places before and after them.
 use Rattle.std.proofs.Common.{◌≡◌, ℕ, ◌+◌, ◌<◌, ◌≤◌, Bool, true, false, cond, nat_lt, List, [], ◌∷◌}
 use Rattle.std.proofs.Common.{◌++◌, length, take, drop, Some, None, position, refl, sym, ap, subst, ◌∙◌, arith}
 use Rattle.std.proofs.Common.{inl, inr, append-nil, append_assoc, length-append}
@@ -18,7 +18,7 @@ use Rattle.parser.proofs.Places.{space}
 abbrev pub HasNoSpace : List ℕ → Type 0
 HasNoSpace word = AllByRecursion (λ b. space b ≡ false) word
 
--- bytes up to the first space, and what stands from it on
+-- bytes up to the first space, and what follows from it on
 pub record IsCutBySpace (bytes : List ℕ) : Type 0 where
   pub word : List ℕ
   pub back : List ℕ
@@ -83,7 +83,7 @@ cut_place line at rest word back e plain (inr more) long =
     (rw (at_space word more.0 plain) (ap (λ (x : List ℕ). (x, at + length word + 1))
     (take-append_seam word (32 ∷ more.0))))
 
--- a word that stands in a line is found there
+-- a word of a line is found there
 pub word_place : (line : List ℕ) (at : ℕ) (front word back : List ℕ) → line ≡ front ++ (word ++ back)
     → length front ≡ at → HasNoSpace word → IsWordEnd back → word_at line at ≡ Some (word, at + length word + 1)
 unfolding word_at
@@ -98,7 +98,7 @@ word_place line at front word back is e plain ends =
     let cut = cut_place line at (drop at line) word back rest plain ends (omega arith) in
     rw inside (ap Some cut)
 
--- behind a word: past the line's end, or behind a space
+-- after a word: past the line's end, or after a space
 pub record IsBehindSpace (line : List ℕ) (at : ℕ) : Type 0 where
   pub front : List ℕ
   pub back : List ℕ
@@ -108,11 +108,11 @@ pub record IsBehindSpace (line : List ℕ) (at : ℕ) : Type 0 where
 abbrev pub IsBehindWord : List ℕ → ℕ → Type 0
 IsBehindWord line at = (at ≡ length line + 1) ⊎ IsBehindSpace line at
 
--- a place where a word may stand
+-- a place where a word may begin
 abbrev pub IsPlace : List ℕ → ℕ → Type 0
 IsPlace line at = (at ≡ 0) ⊎ IsBehindWord line at
 
--- a word of a line, from a place to the one behind it
+-- a word of a line, from a place to the one after it
 pub record IsWordAt (line : List ℕ) (at : ℕ) (w : List ℕ × ℕ) : Type 0 where
   pub front : List ℕ
   pub back : List ℕ
@@ -122,7 +122,7 @@ pub record IsWordAt (line : List ℕ) (at : ℕ) (w : List ℕ × ℕ) : Type 0 
   pub ends : IsWordEnd back
   pub after_is : w.1 ≡ at + length w.0 + 1
 
--- a word stands at each place up to the line's end
+-- there is a word at each place up to the line's end
 pub record FindsWord (line : List ℕ) (at : ℕ) : Type 0 where
   pub w : List ℕ × ℕ
   pub found : word_at line at ≡ Some w
@@ -148,7 +148,7 @@ finds_word line at within =
       };
     }
 
--- no word stands past the end
+-- there is no word past the end
 pub none_past : (line : List ℕ) (at : ℕ) → length line < at → word_at line at ≡ None
 unfolding word_at
 none_past line at past = let test = lt-ltb (length line) at past in rw test refl
@@ -174,6 +174,6 @@ behind_end line at w is (inr more) =
       at_is = omega arith;
     })
 
--- the place behind a word
+-- the place after a word
 pub behind_word : (line : List ℕ) (at : ℕ) (w : List ℕ × ℕ) → IsWordAt line at w → IsBehindWord line w.1
 behind_word line at w is = behind_end line at w is is.ends

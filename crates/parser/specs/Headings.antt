@@ -30,20 +30,20 @@ config_of s layouts = record {
   history = s.history;
 }
 
--- the number behind a name
+-- the number after a name
 unfoldable pub field_at : List ℕ → ℕ → List ℕ → ℕ → ℕ → Result (ℕ × ℕ) Flaw
 field_at line at name low high = do
   after ← fixed_at line at name kinds.UnknownWord
   number_at line after low high
 
--- the words of a page, behind their name
+-- the words of a page, after their name
 unfoldable pub page_size_at : List ℕ → ℕ → Result (ℕ × ℕ) Flaw
 page_size_at line at = do
   after ← fixed_at line at (codes "words") kinds.UnknownWord
   n ← number_at line after 16 MOST_WORDS
   if not (is_page_size n.0) then Err (flaw after kinds.NumberOutOfRange) else Ok n
 
--- a limit behind its name, where the word is that name, else its greatest value
+-- a limit after its name, if the word is that name, else its greatest value
 abbrev pub limit_in : List ℕ → ℕ → List ℕ → ℕ → Option (List ℕ × ℕ) → Result (ℕ × ℕ) Flaw
 limit_in line at name most None = Ok (most, at)
 limit_in line at name most (Some w) = if bytes_eq w.0 name then number_at line w.1 1 most else Ok (most, at)
@@ -76,7 +76,7 @@ limits_at line at = do
   history ← limit_at line births.1 (codes "history") MOST_HISTORY
   Ok ((globals.0, births.0, history.0), history.1)
 
--- sizes by their parts
+-- sizes made of their parts
 abbrev pub sizes_of : ℕ × ℕ × ℕ → ℕ × ℕ × ℕ → ℕ × ℕ × ℕ → Sizes
 sizes_of memory actors limits = record {
   words = memory.0;
@@ -98,14 +98,14 @@ sizes_at line at = do
   limits ← limits_at line actors.1
   Ok (sizes_of memory.0 actors.0 limits.0, limits.1)
 
--- they stand from the place behind the line's first word to its end
+-- the numbers of a heap line from a place to the line's end
 unfoldable pub heap_in : List ℕ → ℕ → Result Sizes Flaw
 heap_in line at = do
   sizes ← sizes_at line at
   _ ← end_at line sizes.1
   Ok sizes.0
 
--- a layout, from the place behind the line's first word on
+-- a layout, from the place after the line's first word to the line's end
 unfoldable pub layout_in : Sizes → List ℕ → ℕ → Result Layout Flaw
 layout_in sizes line at = do
   refs ← number_at line at 0 MOST_FIELDS

@@ -5,7 +5,7 @@ use Rattle.model.specs.Configs.{IsConfig}
 use Rattle.parser.specs.declared.limits.TheConstants.{MOST_FRAMES, MOST_THREADS, MOST_REGISTERS}
 use Rattle.parser.specs.declared.limits.TheConstants.{MOST_GLOBALS, MOST_LAYOUTS, MOST_BIRTHS}
 
--- a heap may be made with it, and it is within the limits of a script
+-- a heap can be made with it, and it is within the limits of a script
 pub record IsScriptConfig (c : Config) : Type 0 where
   pub config : IsConfig c
   pub frames : c.frames ≤ MOST_FRAMES

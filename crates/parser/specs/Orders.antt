@@ -23,8 +23,7 @@ use Rattle.parser.specs.Verbs.{row_of, verb_of, is_for_worker}
 use Rattle.parser.specs.Words.{◌>>=◌, or_flaw, flaw, word_or, number_at, small_at, named_at, address_at, end_at}
 use Rattle.parser.specs.Words.{page_in, offset_in}
 
--- the step of a verb with operands and more numbers; of `get`, `getg`, `drain`, `cycle` and `roll` the first
--- one
+-- the step of a verb with operands and more numbers; for `get`, `getg`, `drain`, `cycle` and `roll` the first step
 abbrev pub step_with : Verb → ℕ → ℕ → ℕ → ℕ → List ℕ → Step
 step_with verbs.Take n b c d e = steps.Take n
 step_with verbs.Give a b c d e = steps.GiveBack
@@ -79,22 +78,22 @@ then_with other = thens.Nothing
 abbrev pub then_of : Order → Then
 then_of o = then_with o.verb
 
--- a command is a cycle, or the first part of one
+-- a command is a cycle, or the first half of one
 abbrev pub is_cycles : Then → Bool
 is_cycles thens.Cycles = true
 is_cycles thens.Rolls = true
 is_cycles other = false
 
--- a run by threads alone does all these commands
+-- some of these commands need a run by threads
 abbrev pub needs_threads : List Command → Bool
 needs_threads cs = list_any (λ (c : Command). is_cycles (then_of c.order)) cs
 
--- a run by threads does what an actor is to do: all of a thread's, and of workers' the cycles of worker 0
+-- a run by threads does this command of an actor: all commands of threads, and cycles of worker 0
 abbrev pub is_raced : Actor → Then → Bool
 is_raced (Thread t) next = true
 is_raced (Worker w) next = (w == 0) && is_cycles next
 
--- a run by threads doesn't do all these commands
+-- a run by threads doesn't do some of these commands
 abbrev pub needs_schedule : List Command → Bool
 needs_schedule cs = list_any (λ (c : Command). not (is_raced c.actor (then_of c.order))) cs
 
@@ -103,20 +102,20 @@ abbrev pub does : Actor → Verb → Bool
 does (Thread t) verb = not (is_for_worker verb)
 does (Worker w) verb = is_for_worker verb
 
--- a verb, where an actor does it
+-- a verb, if the actor does it
 abbrev pub done_by : Actor → Option Verb → Option Verb
 done_by actor None = None
 done_by actor (Some verb) = if does actor verb then Some verb else None
 
--- the verb that a word is for an actor
+-- the verb of a word, if the actor does it
 abbrev pub verb_in : Actor → List ℕ → Option Verb
 verb_in actor word = done_by actor (verb_of word)
 
--- a register that a thread has
+-- a register that exists
 unfoldable pub register_at : Sizes → List ℕ → ℕ → Result (ℕ × ℕ) Flaw
 register_at sizes line at = named_at line at 114 sizes.registers kinds.NoSuchRegister
 
--- a thread that is there
+-- a thread that exists
 abbrev pub thread_at : Sizes → List ℕ → ℕ → Result (ℕ × ℕ) Flaw
 thread_at sizes line at = named_at line at 116 sizes.threads kinds.NoSuchActor
 
@@ -130,7 +129,7 @@ operand_at sizes line at Long = number_at line at 0 18446744073709551615
 operand_at sizes line at Address = address_at line at sizes.words
 operand_at sizes line at Percent = number_at line at 0 100
 
--- numbers of 32 bits from a place to the end of the line, n of them at most
+-- numbers of 32 bits from a place to the end of the line, at most n
 unfoldable pub numbers_by : ℕ → List ℕ → ℕ → Result (List ℕ × ℕ) Flaw
 numbers_by zero line at = Ok ([], at)
 numbers_by (suc n) line at = if nat_lt (length line) at then Ok ([], at) else (do
@@ -138,21 +137,21 @@ numbers_by (suc n) line at = if nat_lt (length line) at then Ok ([], at) else (d
   others ← numbers_by n line number.1
   Ok (number.0 ∷ others.0, others.1))
 
--- numbers of 32 bits from a place to the end of the line, which has no more words than one for each byte, and one
+-- numbers of 32 bits from a place to the end of the line, which has at most one word more than it has bytes
 unfoldable pub numbers_at : List ℕ → ℕ → Result (List ℕ × ℕ) Flaw
 numbers_at line at = numbers_by (length line + 1) line at
 
--- more numbers from a place on, where there may be some
+-- more numbers from a place on, if there may be some
 abbrev pub more_at : Bool → List ℕ → ℕ → Result (List ℕ × ℕ) Flaw
 more_at false line at = Ok ([], at)
 more_at true line at = numbers_at line at
 
--- the first byte, or 0 where there is none
+-- the first byte; 0 if there is none
 abbrev pub first_byte : List ℕ → ℕ
 first_byte [] = 0
 first_byte (b ∷ bs) = b
 
--- the actor at the front of a line
+-- the actor at the beginning of a line
 unfoldable pub actor_at : Sizes → List ℕ → Result (Actor × ℕ) Flaw
 actor_at sizes line =
     if first_byte line == 119 then (do
@@ -166,7 +165,7 @@ abbrev pub order_of : Verb → ℕ → ℕ → ℕ → ℕ → List ℕ → Orde
 order_of verb first second third wide more =
     record { verb = verb; first = first; second = second; third = third; wide = wide; more = more }
 
--- an order with the operands of its verb, and with the numbers behind them
+-- the order of a verb, with its operands and the numbers after them
 unfoldable pub operands_at : Sizes → List ℕ → ℕ → Verb → Result (Order × ℕ) Flaw
 operands_at sizes line at verb = do
   first ← operand_at sizes line at (row_of verb).kinds.first
@@ -176,7 +175,7 @@ operands_at sizes line at verb = do
   more ← more_at (row_of verb).kinds.more line wide.1
   Ok (order_of verb first.0 second.0 third.0 wide.0 more.0, more.1)
 
--- an order, from the place behind the actor to the end of the line
+-- an order, from the place after the actor to the end of the line
 unfoldable pub order_at : Sizes → List ℕ → Actor → ℕ → Result Order Flaw
 order_at sizes line actor at = do
   word ← word_or line at kinds.UnknownWord
@@ -185,7 +184,7 @@ order_at sizes line actor at = do
   _ ← end_at line order.1
   Ok order.0
 
--- a call found what reading gives, unless memory was refused
+-- a call returned what reading defines, unless it is out of memory
 abbrev pub Finds : {A : Type 0} → Result A Stop → Result A Flaw → Type 0
 Finds (Ok x) read = read ≡ Ok x
 Finds (Err stops.Memory) read = Unit {0}

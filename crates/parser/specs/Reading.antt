@@ -30,8 +30,8 @@ pub record ScriptValue : Type 0 where
 abbrev pub script_of : Config → List Command → ScriptValue
 script_of config commands = record { config = config; commands = commands }
 
--- What was read so far: whether a command or a block has begun, the commands outside the open block,
--- how often the open block is done, where one is, and its commands.
+-- What was read so far: the sizes, the layouts, whether a command or a block has begun, the commands outside the open
+-- block, the turns of the open block, if there is one, and its commands.
 pub record ReadSoFar : Type 0 where
   pub sizes : Option Sizes
   pub layouts : List Layout
@@ -40,7 +40,7 @@ pub record ReadSoFar : Type 0 where
   pub turns : Option ℕ
   pub body : List Command
 
--- nothing is read
+-- nothing is read yet
 abbrev pub nothing : ReadSoFar
 nothing = record { sizes = None; layouts = []; begun = false; commands = []; turns = None; body = [] }
 
@@ -48,12 +48,12 @@ nothing = record { sizes = None; layouts = []; begun = false; commands = []; tur
 abbrev pub newline : ℕ → Bool
 newline b = b == 10
 
--- an empty line or a comment
+-- the line is empty or a comment
 abbrev pub is_idle : List ℕ → Bool
 is_idle [] = true
 is_idle (b ∷ bs) = b == 35
 
--- a word, or none as an empty one
+-- a word, or an empty one if there is none
 abbrev pub first_word_in : Option (List ℕ × ℕ) → List ℕ × ℕ
 first_word_in None = ([], 0)
 first_word_in (Some w) = w
@@ -74,12 +74,12 @@ layout_line s sizes line = do
   layout ← layout_in sizes line (first_word line).1
   Ok (record s { layouts = s.layouts ++ layout ∷ [] })
 
--- outside a block no command more is taken
+-- no block is open, and no more commands are allowed
 abbrev pub is_full : Option ℕ → List Command → Bool
 is_full None commands = nat_le MOST_COMMANDS (length commands)
 is_full (Some turns) commands = false
 
--- a command behind what was read: in the open block, or outside
+-- a command after what was read: in the open block, or outside
 abbrev pub with_command : ReadSoFar → Option ℕ → Command → ReadSoFar
 with_command s None c = record s { begun = true; commands = s.commands ++ c ∷ [] }
 with_command s (Some turns) c = record s { body = s.body ++ c ∷ [] }
@@ -92,7 +92,7 @@ command_line s sizes line = do
     order ← order_at sizes line actor.0 actor.1
     Ok (with_command s s.turns (record { actor = actor.0; order = order })))
 
--- a line that begins a block, where none is open
+-- a line that begins a block; a fault if one is open
 abbrev pub times_in : ReadSoFar → Option ℕ → List ℕ → Result ReadSoFar Flaw
 times_in s (Some turns) line = Err (flaw 0 kinds.UnknownWord)
 times_in s None line = do
@@ -104,7 +104,7 @@ times_in s None line = do
 unfoldable pub times_line : ReadSoFar → List ℕ → Result ReadSoFar Flaw
 times_line s line = times_in s s.turns line
 
--- a line that closes a block, where one is open
+-- a line that ends a block; a fault if none is open
 abbrev pub end_in : ReadSoFar → Option ℕ → List ℕ → Result ReadSoFar Flaw
 end_in s None line = Err (flaw 0 kinds.EndWithoutTimes)
 end_in s (Some turns) line =
@@ -112,17 +112,17 @@ end_in s (Some turns) line =
       _ ← end_at line (first_word line).1
       Ok (record s { commands = s.commands ++ repeat turns s.body; turns = None; body = [] }))
 
--- a block ends: its commands stand as often as it says
+-- a block ends: its commands are repeated for each of its turns
 unfoldable pub end_line : ReadSoFar → List ℕ → Result ReadSoFar Flaw
 end_line s line = end_in s s.turns line
 
--- a line of a command or a block
+-- a line of a command or of a block
 unfoldable pub part_line : ReadSoFar → Sizes → List ℕ → Result ReadSoFar Flaw
 part_line s sizes line =
     if bytes_eq (first_word line).0 (codes "times") then times_line s line else
     (if bytes_eq (first_word line).0 (codes "end") then end_line s line else command_line s sizes line)
 
--- a line behind the heap line
+-- a line after the heap line
 unfoldable pub later_line : ReadSoFar → Sizes → List ℕ → Result ReadSoFar Flaw
 later_line s sizes line =
     if bytes_eq (first_word line).0 (codes "layout") && not s.begun && nat_lt (length s.layouts) MOST_LAYOUTS
@@ -134,7 +134,7 @@ abbrev pub line_after : ReadSoFar → Option Sizes → List ℕ → Result ReadS
 line_after s None line = heap_line s line
 line_after s (Some sizes) line = later_line s sizes line
 
--- what a line adds
+-- what was read, after one more line
 unfoldable pub line_in : ReadSoFar → List ℕ → Result ReadSoFar Flaw
 line_in s line = if is_idle line then Ok s else line_after s s.sizes line
 
@@ -143,7 +143,7 @@ abbrev pub in_line : {A : Type 0} → ℕ → Result A Flaw → Result A LineFau
 in_line n (Ok x) = Ok x
 in_line n (Err f) = Err (record { line = n; column = f.column; kind = f.kind })
 
--- the lines go on where the one before has no fault
+-- continues with the next line if the one before has no fault
 abbrev pub goes_on : {A B : Type 0} → Result A LineFault → (A → Result B LineFault) → Result B LineFault
 goes_on (Ok x) f = f x
 goes_on (Err e) f = Err e
@@ -152,22 +152,22 @@ goes_on (Err e) f = Err e
 abbrev pub fault_at_start : ℕ → FaultKind → LineFault
 fault_at_start n kind = record { line = n; column = 1; kind = kind }
 
--- what was read, as a script: no block is open
+-- what was read, as a script; a fault if a block is open
 abbrev pub closed : ℕ → ReadSoFar → Sizes → Option ℕ → Result ScriptValue LineFault
 closed n s sizes (Some turns) = Err (fault_at_start n kinds.TimesWithoutEnd)
 closed n s sizes None = Ok (script_of (config_of sizes s.layouts) s.commands)
 
--- what was read, as a script: there has to be a layout line
+-- what was read, as a script; a fault without a heap line or a layout line
 abbrev pub whole : ℕ → ReadSoFar → Option Sizes → Result ScriptValue LineFault
 whole n s None = Err (fault_at_start n kinds.HeapLineExpected)
 whole n s (Some sizes) =
     if length s.layouts == 0 then Err (fault_at_start n kinds.LayoutLineExpected) else closed n s sizes s.turns
 
--- what was read, where line n would be the next
+-- what was read, as a script, if line n would be the next
 unfoldable pub finished : ℕ → ReadSoFar → Result ScriptValue LineFault
 finished n s = whole n s s.sizes
 
--- What stands behind the last newline has to be nothing.
+-- the end of the text: the bytes after the last newline, which have to be empty
 unfoldable pub last_line : ℕ → ReadSoFar → List ℕ → Result ScriptValue LineFault
 last_line n s rest = if length rest == 0 then finished n s else
     goes_on (in_line n (line_in s rest)) (λ t.
@@ -183,18 +183,18 @@ lines_in n s (line ∷ next ∷ lines) = goes_on (in_line n (line_in s line)) (�
 unfoldable pub script_in : List ℕ → Result ScriptValue LineFault
 script_in bytes = lines_in 1 nothing (slice_split newline bytes)
 
--- an error of a call that read, where memory may have been refused
+-- an error of a call that reads: out of memory, or the fault that reading defines
 abbrev pub Fails : {Y : Type 0} → ParseFault → Result Y LineFault → Type 0
 Fails faults.Memory read = Unit {0}
 Fails faults.TooLong read = ⊥
 Fails (faults.Line f) read = read ≡ Err f
 
--- a call gave, as seen by view, what was to be read, unless memory was refused
+-- a call returned what reading defines, as seen by `view`, unless it is out of memory
 abbrev pub Gives : {X Y : Type 0} → (X → Y) → Result X ParseFault → Result Y LineFault → Type 0
 Gives view (Ok x) read = read ≡ Ok (view x)
 Gives view (Err e) read = Fails e read
 
--- a call that took a line led on as it should, unless memory was refused
+-- a call that read a line has the effect that reading defines, unless it is out of memory
 abbrev pub Follows : Result Unit Stop → ReadSoFar → Result ReadSoFar Flaw → Type 0
 Follows (Ok u) new read = read ≡ Ok new
 Follows (Err stops.Memory) new read = Unit {0}

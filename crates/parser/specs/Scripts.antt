@@ -1,4 +1,4 @@
--- What reading a script promises.
+-- The promises of reading a script.
 use Rattle.std.specs.Prelude.{◌≡◌, ℕ, ◌<◌, List, length, Result, Ok, Err}
 use Rattle.std.specs.Option.{is_some}
 use Rattle.model.specs.declared.config.Config.{Config}
@@ -12,30 +12,30 @@ use Rattle.parser.specs.Orders.{needs_threads, needs_schedule}
 use Rattle.parser.specs.Reading.{ScriptValue, script_of}
 use Rattle.parser.specs.Spelling.{IsScript}
 
--- an error says why nothing was read: a fault is the one that reading gives
+-- an error is the reason why nothing was read: a fault is the one that reading defines
 abbrev pub IsWhy : ParseFault → Result ScriptValue LineFault → Type 0
 IsWhy faults.Memory read = Unit {0}
 IsWhy faults.TooLong read = Unit {0}
 IsWhy (faults.Line f) read = read ≡ Err f
 
--- a script as it was parsed: with where its commands stand in the text that not every run does
+-- a parsed script, with the places of its first commands that not every kind of run does
 pub record ParsedScript : Type 0 where
   pub config : Config
   pub commands : List Command
   pub spots : Spots
 
--- the script alone
+-- the script without these places
 abbrev pub script_alone : ParsedScript → ScriptValue
 script_alone s = script_of s.config s.commands
 
--- All limits allow the script, and there is a first cycle, and a first command that a run by threads doesn't do,
--- exactly where there is one.
+-- The script is within all limits. It has the place of a first cycle, and of a first command that a run by threads
+-- doesn't do, exactly if there is such a command.
 pub record IsParsed (s : ParsedScript) : Type 0 where
   pub script : IsScript (script_alone s)
   pub cycle : is_some s.spots.cycle ≡ needs_threads s.commands
   pub other : is_some s.spots.other ≡ needs_schedule s.commands
 
--- the answer is what reading gives, unless the bytes were too many or memory was refused
+-- the result is what reading defines, unless there are too many bytes or it is out of memory
 abbrev pub IsReadOf : Result ParsedScript ParseFault → Result ScriptValue LineFault → Type 0
 IsReadOf (Ok s) read = read ≡ Ok (script_alone s)
 IsReadOf (Err e) read = IsWhy e read

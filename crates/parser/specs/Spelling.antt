@@ -21,7 +21,7 @@ use Rattle.parser.specs.Words.{page_in, offset_in}
 use Rattle.parser.specs.Orders.{does}
 use Rattle.parser.specs.Reading.{ScriptValue, is_idle}
 
--- the line of words, with one space between each two
+-- a line of words, with one space between each two
 abbrev pub line_of : List (List ℕ) → List ℕ
 line_of words = join_with_byte 32 words
 
@@ -30,7 +30,7 @@ abbrev pub actor_word : Actor → List ℕ
 actor_word (Thread t) = codes "t" ++ decimal t
 actor_word (Worker w) = codes "w" ++ decimal w
 
--- an address's word: its page and its offset, with a point between them
+-- an address's word: its page and its offset, with a period between them
 abbrev pub address_word : ℕ → ℕ → List ℕ
 address_word page offset = decimal page ++ (codes "." ++ decimal offset)
 
@@ -48,7 +48,7 @@ operand_word Long n = decimal n ∷ []
 operand_word Address n = address_word (page_in n) (offset_in n) ∷ []
 operand_word Percent n = decimal n ∷ []
 
--- the words of operands, and those of more numbers behind them
+-- the words of operands, then those of the numbers after them
 abbrev pub operand_words : Kinds → Order → List (List ℕ)
 operand_words kinds o =
     operand_word kinds.first o.first
@@ -67,14 +67,14 @@ command_line_of c = line_of (actor_word c.actor ∷ order_words c.order)
 abbrev pub layout_line_of : Layout → List ℕ
 layout_line_of l = line_of (codes "layout" ∷ decimal l.refs ∷ decimal l.nums ∷ [])
 
--- the words of the sizes, each behind its name
+-- the words of the sizes, each number after its name
 abbrev pub size_words : Config → List (List ℕ)
 size_words c =
     codes "words" ∷ decimal c.words ∷ codes "frames" ∷ decimal c.frames ∷ codes "pages" ∷ decimal c.pages
     ∷ codes "threads" ∷ decimal c.threads ∷ codes "workers" ∷ decimal c.workers
     ∷ codes "registers" ∷ decimal c.registers ∷ codes "globals" ∷ decimal c.globals ∷ []
 
--- a limit is spelled by its name and number, or left out where it is the greatest
+-- a limit is spelled by its name and number, or omitted if it has its greatest value
 abbrev pub SpellsLimit : List ℕ → ℕ → ℕ → List (List ℕ) → Type 0
 SpellsLimit name most limit words = (words ≡ name ∷ decimal limit ∷ []) ⊎ ((words ≡ []) × (limit ≡ most))
 
@@ -86,7 +86,7 @@ pub record SpellsHeap (line : List ℕ) (config : Config) : Type 0 where
   pub history_spelled : SpellsLimit (codes "history") MOST_HISTORY config.history history
   pub line_is : line ≡ line_of (codes "heap" ∷ size_words config ++ births ++ history)
 
--- a part of a script: one command, or a block of commands that is done so many times over
+-- a part of a script: one command, or a block of commands with a number of turns
 pub data Part : Type 0 where
   One : Command → Part
   Times : ℕ → List Command → Part
@@ -100,12 +100,12 @@ abbrev pub part_lines : Part → List (List ℕ)
 part_lines (One c) = command_line_of c ∷ []
 part_lines (Times turns cs) = times_line_of turns ∷ map command_line_of cs ++ codes "end" ∷ []
 
--- the commands of a part: those of a block stand as often as it says
+-- the commands of a part: those of a block are repeated for each of its turns
 abbrev pub part_commands : Part → List Command
 part_commands (One c) = c ∷ []
 part_commands (Times turns cs) = repeat turns cs
 
--- a block is done once at least, and not too often
+-- a block has at least one turn, and not too many
 abbrev pub IsPart : Part → Type 0
 IsPart (One c) = Unit {0}
 IsPart (Times turns cs) = (1 ≤ turns) × (turns ≤ MOST_TURNS)
@@ -118,13 +118,13 @@ says_something line = not (is_idle line)
 abbrev pub with_newline : List ℕ → List ℕ
 with_newline line = line ++ 10 ∷ []
 
--- no newline stands in a line
+-- a line has no newline
 abbrev pub IsLine : List ℕ → Type 0
 IsLine line = All (λ b. b ≢ 10) line
 
--- The bytes are lines that each end in a newline. Those that say something are a heap line of the
--- configuration, then a line for each layout, then the lines of parts: of single commands, and of
--- blocks. The script's commands are those of the parts in order, a block's as often as it says.
+-- The bytes are lines that each end in a newline. Apart from empty lines and comments, they are a heap line of the
+-- configuration, then a line for each layout, then the lines of parts: single commands and blocks. The script's
+-- commands are those of the parts in order, a block's repeated for each of its turns.
 pub record Spells (bytes : List ℕ) (script : ScriptValue) : Type 0 where
   pub lines : List (List ℕ)
   pub each : All IsLine lines
@@ -136,12 +136,12 @@ pub record Spells (bytes : List ℕ) (script : ScriptValue) : Type 0 where
   pub commands_are : script.commands ≡ flat_map part_commands parts
   pub said : filter says_something lines ≡ heap ∷ map layout_line_of script.config.layouts ++ flat_map part_lines parts
 
--- the numbers of a layout are no greater than they may be
+-- the numbers of a layout are within their limits
 pub record IsLayout (l : Layout) : Type 0 where
   pub refs : l.refs ≤ MOST_FIELDS
   pub nums : l.nums ≤ MOST_FIELDS
 
--- an actor is there
+-- an actor exists
 abbrev pub IsActor : Config → Actor → Type 0
 IsActor config (Thread t) = t < config.threads
 IsActor config (Worker w) = w < config.workers
@@ -150,7 +150,7 @@ IsActor config (Worker w) = w < config.workers
 abbrev pub IsFor : Actor → Order → Type 0
 IsFor actor order = does actor order.verb ≡ true
 
--- what operands have to be below: the words of a page, the threads and the registers
+-- the bounds of operands: the words of a page, the threads and the registers
 pub record Bounds : Type 0 where
   pub words : ℕ
   pub threads : ℕ
@@ -160,8 +160,8 @@ pub record Bounds : Type 0 where
 abbrev pub bounds_of : Config → Bounds
 bounds_of c = record { words = c.words; threads = c.threads; registers = c.registers }
 
--- an operand is one of its kind: a register or a thread is there, a number fits, and an address fits and has an offset
--- within a page
+-- an operand is one of its kind: a register or a thread exists, a number is in range, and an address is in range and
+-- has an offset within a page
 abbrev pub IsOperand : Bounds → Kind → ℕ → Type 0
 IsOperand bounds Nothing n = n ≡ 0
 IsOperand bounds Register n = n < bounds.registers
@@ -171,12 +171,12 @@ IsOperand bounds Long n = n < 2 ^ 64
 IsOperand bounds Address n = (n < 2 ^ 64) × (offset_in n < bounds.words)
 IsOperand bounds Percent n = n ≤ 100
 
--- more numbers stand only where there may be some, and each fits 32 bits
+-- there are more numbers only if the verb allows them, and each has 32 bits
 abbrev pub AreMore : Bool → List ℕ → Type 0
 AreMore false more = more ≡ []
 AreMore true more = All (λ n. n < 2 ^ 32) more
 
--- each operand of an order is one of its kind, and so are the numbers behind them
+-- each operand of an order is one of its kind, and so are the numbers after them
 pub record IsOrder (bounds : Bounds) (o : Order) : Type 0 where
   pub first : IsOperand bounds (row_of o.verb).kinds.first o.first
   pub second : IsOperand bounds (row_of o.verb).kinds.second o.second
@@ -190,7 +190,7 @@ pub record IsCommand (config : Config) (c : Command) : Type 0 where
   pub own : IsFor c.actor c.order
   pub order : IsOrder (bounds_of config) c.order
 
--- a script that all limits allow
+-- a script within all limits
 pub record IsScript (script : ScriptValue) : Type 0 where
   pub config : IsScriptConfig script.config
   pub layouts : All IsLayout script.config.layouts

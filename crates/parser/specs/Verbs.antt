@@ -1,4 +1,4 @@
--- The commands: their words and operands, in one table.
+-- The commands: their words and operands, as a table.
 use Rattle.std.specs.Prelude.{ℕ, Bool, true, false, List, Option, codes, find}
 use Rattle.std.specs.Str.{bytes_eq}
 use Rattle.parser.specs.declared.verbs.Verb.{Verb}
@@ -17,15 +17,15 @@ abbrev pub row : List ℕ → Kind → Kind → Kind → Kind → Row
 row text first second third wide =
     record { text = text; kinds = record { first = first; second = second; third = third; wide = wide; more = false } }
 
--- a verb with one operand, and more numbers behind it
+-- a verb with one operand, and more numbers after it
 abbrev pub listing : List ℕ → Kind → Row
 listing text first = record {
   text = text;
   kinds = record { first = first; second = Nothing; third = Nothing; wide = Nothing; more = true };
 }
 
--- a command's word, and what stands behind it: up to three operands of 32 bits, then up to one of 64, then, for
--- `listing`, any number of numbers of 32 bits
+-- a command's word and what follows it: up to three operands of 32 bits, then up to one of 64, then, for `listing`,
+-- any number of numbers of 32 bits
 abbrev pub row_of : Verb → Row
 row_of verbs.Take = row (codes "take") Number Nothing Nothing Nothing
 row_of verbs.Give = row (codes "give") Nothing Nothing Nothing Nothing
@@ -63,7 +63,7 @@ row_of verbs.Release = row (codes "release") Number Nothing Nothing Nothing
 row_of verbs.Cycle = row (codes "cycle") Percent Nothing Nothing Nothing
 row_of verbs.Roll = row (codes "roll") Percent Nothing Nothing Nothing
 
--- workers do these verbs, and threads all others
+-- workers do these verbs, threads all others
 abbrev pub is_for_worker : Verb → Bool
 is_for_worker verbs.Mark = true
 is_for_worker verbs.EndMark = true
@@ -80,7 +80,7 @@ is_for_worker verbs.Cycle = true
 is_for_worker verbs.Roll = true
 is_for_worker other = false
 
--- the verb that a word is
+-- the verb of a word
 unfoldable pub verb_of : List ℕ → Option Verb
 verb_of word = find (λ verb. bytes_eq word (row_of verb).text) VERBS
 

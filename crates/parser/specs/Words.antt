@@ -19,13 +19,13 @@ word_at line at =
     if nat_lt (length line) at then None
     else Some (cut_at line at (drop at line) (position (λ b. b == 32) (drop at line)))
 
--- a step that goes on where the one before found no fault
+-- continues if the step before found no fault
 infixl 10 ◌>>=◌
 abbrev pub ◌>>=◌ : {A B : Type 0} → Result A Flaw → (A → Result B Flaw) → Result B Flaw
 (Ok x) >>= f = f x
 (Err e) >>= f = Err e
 
--- a result as its parts are seen
+-- a result whose value is seen by a view
 abbrev pub seen : {X Y : Type 0} → (X → Y) → Result X Flaw → Result Y Flaw
 seen view (Ok x) = Ok (view x)
 seen view (Err e) = Err e
@@ -34,16 +34,16 @@ seen view (Err e) = Err e
 abbrev pub flaw : ℕ → FaultKind → Flaw
 flaw at kind = record { column = at + 1; kind = kind }
 
--- what is there, or this fault
+-- an option's value, or this fault
 abbrev pub or_flaw : {A : Type 0} → Option A → Flaw → Result A Flaw
 or_flaw None e = Err e
 or_flaw (Some x) e = Ok x
 
--- the word at a place, or the fault where it is missing
+-- the word at a place, or a fault if it is missing
 unfoldable pub word_or : List ℕ → ℕ → FaultKind → Result (List ℕ × ℕ) Flaw
 word_or line at kind = or_flaw (word_at line at) (flaw (length line) kind)
 
--- a word that has to stand at a place
+-- a word that is required at a place
 unfoldable pub fixed_at : List ℕ → ℕ → List ℕ → FaultKind → Result ℕ Flaw
 fixed_at line at text kind = do
   w ← word_or line at kind
@@ -58,16 +58,16 @@ abbrev pub starts_with_zero : List ℕ → Bool
 starts_with_zero [] = false
 starts_with_zero (b ∷ bs) = b == 48
 
--- digits, with no zero before others
+-- digits, without leading zeros
 unfoldable pub is_number : List ℕ → Bool
 is_number word = not (length word == 0) && list_all is_digit word && ((length word == 1) || not (starts_with_zero word))
 
--- the number that digits stand for behind what went before, with all numbers from 2^64 on taken as one
+-- the number that digits represent after earlier ones; all numbers from 2^64 on are 2^64
 unfoldable pub capped_from : ℕ → List ℕ → ℕ
 capped_from v [] = v
 capped_from v (b ∷ bs) = capped_from (min (v * 10 + (b - 48)) (2 ^ 64)) bs
 
--- the number that a word is, with all from 2^64 on taken as one
+-- the number of a word; all numbers from 2^64 on are 2^64
 abbrev pub number_in : List ℕ → Option ℕ
 number_in word = if is_number word then Some (capped_from 0 word) else None
 
@@ -99,12 +99,12 @@ named_at line at letter count missing = do
   w ← word_or line at kinds.UnknownWord
   named_in w.0 w.1 at letter count missing
 
--- two parts of a word, before and behind the byte between them
+-- the two parts of a word, before and after a byte
 abbrev pub parts_at : List ℕ → Option ℕ → Option (List ℕ × List ℕ)
 parts_at word None = None
 parts_at word (Some i) = Some (take i word, drop (i + 1) word)
 
--- the parts of a word before and behind its first point
+-- the parts of a word before and after its first period
 unfoldable pub point_parts : List ℕ → Option (List ℕ × List ℕ)
 point_parts word = parts_at word (position (λ b. b == 46) word)
 
@@ -120,25 +120,25 @@ page_in n = n / 2 ^ 32
 abbrev pub offset_in : ℕ → ℕ
 offset_in n = n % 2 ^ 32
 
--- a page and an offset that fit their 32 bits and a page of so many words, or the fault
+-- a page of 32 bits, and an offset of 32 bits within a page of a number of words, or the fault
 abbrev pub address_or : ℕ → ℕ → ℕ → ℕ → ℕ → Result (ℕ × ℕ) Flaw
 address_or page offset after at words =
     if nat_le (2 ^ 32) page || nat_le words offset then Err (flaw at kinds.NumberOutOfRange)
     else Ok (address_number page offset, after)
 
--- an address of two parts, which have to be numbers
+-- an address by its two parts, which have to be numbers
 abbrev pub address_in : List ℕ × List ℕ → ℕ → ℕ → ℕ → Result (ℕ × ℕ) Flaw
 address_in parts after at words =
     if not (is_number parts.0) || not (is_number parts.1) then Err (flaw at kinds.UnknownWord)
     else address_or (capped_from 0 parts.0) (capped_from 0 parts.1) after at words
 
--- an address at a place, with an offset below so many words
+-- an address at a place, with an offset below a number of words
 unfoldable pub address_at : List ℕ → ℕ → ℕ → Result (ℕ × ℕ) Flaw
 address_at line at words = do
   w ← word_or line at kinds.UnknownWord
   parts ← or_flaw (point_parts w.0) (flaw at kinds.UnknownWord)
   address_in parts w.1 at words
 
--- the end of the line
+-- the end of the line is at a place; else a fault
 unfoldable pub end_at : List ℕ → ℕ → Result Unit Flaw
 end_at line at = if nat_le at (length line) then Err (flaw at kinds.EndOfLineExpected) else Ok tt

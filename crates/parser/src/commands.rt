@@ -17,7 +17,7 @@ use crate::words::{address_at, end_at, named_at, named_in, number_at, small_at, 
 use model::Actor;
 use std::alloc::Global;
 
-/// The actor that a line's first word is, and the place after it.
+/// Returns the actor of a line's first word, and the place after it.
 #[tactic(auto, unfolding(crate::specs::Orders::actor_at))]
 pub fn actor_at(
     sizes: &Sizes,
@@ -37,7 +37,8 @@ pub fn actor_at(
     }
 }
 
-/// The number in a line's first word, where that is a letter and a number below `count`, and the place after it.
+/// Returns the number of a line's first word, which must be a letter and a number below `count`, and the place after
+/// it.
 #[tactic(auto, using(crate::proofs::FirstWords::first_named))]
 fn first_named(
     line: &[u8],
@@ -61,7 +62,7 @@ pub fn begins_with_w(line: &[u8]) -> bool
     }
 }
 
-/// Whether an actor does a verb.
+/// Returns whether an actor does a verb.
 fn does(actor: Actor, verb: Verb) -> bool
     ensures { result ≡ does actor verb }
 {
@@ -71,7 +72,7 @@ fn does(actor: Actor, verb: Verb) -> bool
     }
 }
 
-/// The verb that a word is for an actor.
+/// Returns the verb of a word, if the actor does it.
 fn verb_in(actor: Actor, word: &[u8]) -> Option<Verb>
     ensures { result ≡ verb_in actor word.now }
 {
@@ -95,7 +96,7 @@ fn register_at(sizes: &Sizes, line: &[u8], at: usize) -> Result<(u32, usize), Fl
     named_at(line, at, b'r', sizes.registers, FaultKind::NoSuchRegister)
 }
 
-/// A number from 0 to 100, and the place after it.
+/// Returns a number from 0 to 100, and the place after it.
 fn percent_at(line: &[u8], at: usize) -> Result<(u32, usize), Flaw>
     ensures { result ≡ number_at line.now at 0 100 }
 {
@@ -103,7 +104,7 @@ fn percent_at(line: &[u8], at: usize) -> Result<(u32, usize), Flaw>
     Ok((value as u32, after))
 }
 
-/// An operand of 32 bits, and the place after it.
+/// Returns an operand of 32 bits, and the place after it.
 #[inline(always)]
 #[tactic(auto, unfolding(crate::specs::Orders::operand_at))]
 fn small_operand_at(sizes: &Sizes, line: &[u8], at: usize, kind: Kind) -> Result<(u32, usize), Flaw>
@@ -120,7 +121,7 @@ fn small_operand_at(sizes: &Sizes, line: &[u8], at: usize, kind: Kind) -> Result
     }
 }
 
-/// An operand of 64 bits, and the place after it.
+/// Returns an operand of 64 bits, and the place after it.
 #[inline(always)]
 #[tactic(auto, unfolding(crate::specs::Orders::operand_at))]
 fn wide_operand_at(sizes: &Sizes, line: &[u8], at: usize, kind: Kind) -> Result<(u64, usize), Flaw>
@@ -135,7 +136,7 @@ fn wide_operand_at(sizes: &Sizes, line: &[u8], at: usize, kind: Kind) -> Result<
     }
 }
 
-/// The numbers of 32 bits from a place to the end of the line, and the place after them.
+/// Returns the numbers of 32 bits from a place to the end of the line, and the place after them.
 #[inline(never)]
 #[tactic(auto, using(crate::proofs::ManyNumbers::begun, crate::proofs::ManyNumbers::one_more, crate::proofs::ManyNumbers::broken, crate::proofs::ManyNumbers::ended, crate::proofs::ManyNumbers::small_moves))]
 fn numbers_at(alloc: Global, line: &[u8], at: usize) -> Result<(NumberList, usize), Stop>
@@ -151,7 +152,7 @@ fn numbers_at(alloc: Global, line: &[u8], at: usize) -> Result<(NumberList, usiz
     Ok((NumberList::new(alloc, numbers)?, place))
 }
 
-/// More numbers from a place on, where there may be some, and the place after them.
+/// Returns more numbers from a place on, if there may be some, and the place after them.
 #[inline(always)]
 fn more_at(alloc: Global, line: &[u8], at: usize, more: bool) -> Result<(NumberList, usize), Stop>
     ensures { Finds result (more_at more line.now at) }
@@ -163,7 +164,7 @@ fn more_at(alloc: Global, line: &[u8], at: usize, more: bool) -> Result<(NumberL
     }
 }
 
-/// The order of a verb, with its operands from a place on, and the place after them.
+/// Returns the order of a verb, with its operands from a place on, and the place after them.
 #[tactic(auto, unfolding(crate::specs::Orders::operands_at))]
 fn operands_at(
     alloc: Global,
@@ -191,7 +192,7 @@ fn operands_at(
     Ok((order, at))
 }
 
-/// The order of an actor from a place to the end of the line.
+/// Returns the order of an actor from a place to the end of the line.
 #[tactic(auto, unfolding(crate::specs::Orders::order_at))]
 pub fn order_at(
     alloc: Global,

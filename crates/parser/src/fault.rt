@@ -1,4 +1,4 @@
-//! What is wrong with a script.
+//! Faults of scripts.
 
 ghost use Rattle.std.specs.Prelude.{◌≡◌};
 ghost use Rattle.parser.specs.declared.fault.ParseFault.TheVariants.{Memory};
@@ -6,54 +6,54 @@ ghost use Rattle.parser.specs.declared.fault.ParseFault.TheVariants.{Memory};
 use std::alloc::{AllocError, AllocFailed};
 use thiserror::Error;
 
-/// A kind of fault. Of two at one place the one that stands first here is told.
+/// A kind of fault. Of two at one place the first in this list is reported.
 #[derive(Clone, Copy, Debug, PartialEq, Eq, Error)]
 pub enum FaultKind {
-    /// The first line that isn't empty and no comment is no heap line.
+    /// The first line that isn't empty or a comment is no heap line.
     #[error("heap line expected")]
     HeapLineExpected,
-    /// No layout line stands behind the heap line.
+    /// No layout line follows the heap line.
     #[error("layout line expected")]
     LayoutLineExpected,
-    /// An actor, a register, a keyword or a command's word is missing or hasn't its form.
+    /// An actor, a register, a keyword or a command's word is missing or malformed.
     #[error("unknown word")]
     UnknownWord,
-    /// A number is missing or hasn't its form: decimal digits, no zero before others.
+    /// A number is missing or malformed. Numbers are decimal digits without leading zeros.
     #[error("number expected")]
     NumberExpected,
-    /// A number is too small or too large for its place.
+    /// A number is out of its range.
     #[error("number out of range")]
     NumberOutOfRange,
-    /// An object of the layout has no room in a page. It stands at the number of data words.
+    /// An object of the layout doesn't fit in a page. The fault is at the number of data words.
     #[error("layout too large")]
     LayoutTooLarge,
-    /// The heap line has no such thread or worker.
+    /// The heap has no such thread or worker.
     #[error("no such actor")]
     NoSuchActor,
     /// A thread has no such register.
     #[error("no such register")]
     NoSuchRegister,
-    /// A line goes on behind its last word.
+    /// A line continues after its last word.
     #[error("end of line expected")]
     EndOfLineExpected,
     /// The last line has no newline.
     #[error("newline expected")]
     NewlineExpected,
-    /// A cycle is a command of a run by threads alone.
+    /// A cycle, which only a run by threads does, in another run.
     #[error("cycle needs threads")]
     CycleNeedsThreads,
-    /// A line `end` stands outside a block.
+    /// A line `end` outside a block.
     #[error("end without times")]
     EndWithoutTimes,
-    /// A block is still open where the lines are at their end.
+    /// A block is open at the end of the text.
     #[error("times without end")]
     TimesWithoutEnd,
-    /// There are more commands than a script may have.
+    /// The script has more commands than `MOST_COMMANDS`.
     #[error("too many commands")]
     TooManyCommands,
 }
 
-/// A fault in a line whose number is known to the caller.
+/// A fault in a line whose number the caller knows.
 #[derive(Clone, Copy, Debug, PartialEq, Eq)]
 pub struct Flaw {
     /// The column, in bytes from 1.
@@ -62,7 +62,7 @@ pub struct Flaw {
     pub kind: FaultKind,
 }
 
-/// The first fault of a script, and where it stands.
+/// The first fault of a script, and its place.
 #[derive(Clone, Copy, Debug, PartialEq, Eq, Error)]
 #[error("line {line} column {column}: {kind}")]
 pub struct LineFault {
@@ -74,16 +74,16 @@ pub struct LineFault {
     pub kind: FaultKind,
 }
 
-/// Why a script isn't read.
+/// Why a script can't be read.
 #[derive(Clone, Copy, Debug, PartialEq, Eq, Error)]
 pub enum ParseFault {
-    /// It has more bytes than a script may have.
+    /// It has more bytes than `MOST_BYTES`.
     #[error("script too long")]
     TooLong,
     /// It has a fault.
     #[error(transparent)]
     Line(LineFault),
-    /// Memory was refused.
+    /// Out of memory.
     #[error("out of memory")]
     Memory,
 }
@@ -104,7 +104,7 @@ impl<T: Drop> From<AllocFailed<T>> for ParseFault {
     }
 }
 
-/// Why a line isn't taken.
+/// Why a line is rejected.
 #[derive(Drop)]
 pub enum Stop {
     Memory,

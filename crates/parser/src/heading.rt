@@ -12,7 +12,7 @@ use crate::words::{end_at, fixed_at, number_at, word_at};
 use layout::{Layout, Layouts};
 use model::{Config, MOST_FIELDS, MOST_HISTORY, MOST_PAGES, MOST_WORDS, MOST_WORKERS};
 
-/// The numbers of a heap line, those that are left out among them.
+/// The numbers of a heap line; omitted ones have their greatest value.
 #[derive(Clone, Copy, Debug, PartialEq, Eq)]
 pub struct Sizes {
     /// The words of a page: 16 to 32,768, a power of two.
@@ -29,14 +29,14 @@ pub struct Sizes {
     pub registers: u32,
     /// The globals: 0 to 64.
     pub globals: u32,
-    /// How many objects may be born: 1 to 2^32.
+    /// The limit of births: 1 to 2^32.
     pub births: u64,
-    /// How many entries a history may have: 1 to 1,000,000.
+    /// The limit of entries of a history: 1 to 1,000,000.
     pub history: u64,
 }
 
 impl Sizes {
-    /// The configuration of these sizes, with layouts.
+    /// Returns the configuration of these sizes, with layouts.
     pub fn config(self, layouts: Vec<Layout>) -> Config
         ensures { result ≡ config_of self layouts.items }
     {
@@ -64,7 +64,7 @@ fn is_page_size(words: u64) -> bool
     )
 }
 
-/// The number behind a name that has to stand at a place.
+/// Returns the number after a name that is required at a place.
 #[tactic(auto, unfolding(crate::specs::Headings::field_at))]
 fn field_at(line: &[u8], at: usize, name: &[u8], low: u64, high: u64) -> Result<(u64, usize), Flaw>
     ensures found { result ≡ field_at line.now at name.now low high }
@@ -74,7 +74,7 @@ fn field_at(line: &[u8], at: usize, name: &[u8], low: u64, high: u64) -> Result<
     number_at(line, after, low, high)
 }
 
-/// The words of a page, behind their name.
+/// Returns the words of a page, after their name.
 #[tactic(auto, unfolding(crate::specs::Headings::page_size_at))]
 fn page_size_at(line: &[u8], at: usize) -> Result<(u64, usize), Flaw>
     ensures found { result ≡ page_size_at line.now at }
@@ -91,7 +91,7 @@ fn page_size_at(line: &[u8], at: usize) -> Result<(u64, usize), Flaw>
     Ok((words, end))
 }
 
-/// A limit from 1 to `most` behind its name, or `most` where the name isn't there.
+/// Returns a limit from 1 to `most` after its name, or `most` if the name is missing.
 #[tactic(auto, unfolding(crate::specs::Headings::limit_at))]
 fn limit_at(line: &[u8], at: usize, name: &[u8], most: u64) -> Result<(u64, usize), Flaw>
     ensures { result ≡ limit_at line.now at name.now most }
@@ -106,7 +106,7 @@ fn limit_at(line: &[u8], at: usize, name: &[u8], most: u64) -> Result<(u64, usiz
     }
 }
 
-/// The words of a page, the frames and the pages, and the place after them.
+/// Returns the words of a page, the frames and the pages, and the place after them.
 #[tactic(auto, unfolding(crate::specs::Headings::memory_at))]
 fn memory_at(line: &[u8], at: usize) -> Result<((u32, u32, u32), usize), Flaw>
     ensures { result ≡ memory_at line.now at }
@@ -117,7 +117,7 @@ fn memory_at(line: &[u8], at: usize) -> Result<((u32, u32, u32), usize), Flaw>
     Ok(((words as u32, frames as u32, pages as u32), at))
 }
 
-/// The threads, the workers and the registers, and the place after them.
+/// Returns the threads, the workers and the registers, and the place after them.
 #[tactic(auto, unfolding(crate::specs::Headings::actors_at))]
 fn actors_at(line: &[u8], at: usize) -> Result<((u32, u32, u32), usize), Flaw>
     ensures { result ≡ actors_at line.now at }
@@ -128,7 +128,7 @@ fn actors_at(line: &[u8], at: usize) -> Result<((u32, u32, u32), usize), Flaw>
     Ok(((threads as u32, workers as u32, registers as u32), at))
 }
 
-/// The globals, the births and the history, and the place after them.
+/// Returns the globals, the births and the history, and the place after them.
 #[tactic(auto, unfolding(crate::specs::Headings::limits_at))]
 fn limits_at(line: &[u8], at: usize) -> Result<((u32, u64, u64), usize), Flaw>
     ensures { result ≡ limits_at line.now at }
@@ -139,7 +139,7 @@ fn limits_at(line: &[u8], at: usize) -> Result<((u32, u64, u64), usize), Flaw>
     Ok(((globals as u32, births, history), at))
 }
 
-/// The numbers of a heap line, and the place after them.
+/// Returns the numbers of a heap line, and the place after them.
 #[tactic(auto, unfolding(crate::specs::Headings::sizes_at))]
 fn sizes_at(line: &[u8], at: usize) -> Result<(Sizes, usize), Flaw>
     ensures { result ≡ sizes_at line.now at }
@@ -161,7 +161,7 @@ fn sizes_at(line: &[u8], at: usize) -> Result<(Sizes, usize), Flaw>
     Ok((sizes, at))
 }
 
-/// What the heap line says behind its first word.
+/// Returns the sizes in a heap line, from the place after its first word to its end.
 #[tactic(auto, unfolding(crate::specs::Headings::heap_in))]
 pub fn heap_in(line: &[u8], at: usize) -> Result<Sizes, Flaw>
     ensures { result ≡ heap_in line.now at }
@@ -171,7 +171,7 @@ pub fn heap_in(line: &[u8], at: usize) -> Result<Sizes, Flaw>
     Ok(sizes)
 }
 
-/// What a layout line says behind its first word.
+/// Returns the layout in a layout line, from the place after its first word to its end.
 #[tactic(auto, unfolding(crate::specs::Headings::layout_in))]
 pub fn layout_in(sizes: &Sizes, line: &[u8], at: usize) -> Result<Layout, Flaw>
     ensures { result ≡ layout_in sizes.now line.now at }

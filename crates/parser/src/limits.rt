@@ -1,19 +1,19 @@
-//! The limits of a script's heap. They are the script language's own: a heap of the library may have more.
+//! The limits of a script's heap. They belong to the script language: a heap of the library may have more.
 
-/// The most frames.
+/// The greatest number of frames.
 pub const MOST_FRAMES: u32 = 4096;
 
-/// The most mutator threads.
+/// The greatest number of mutator threads.
 pub const MOST_THREADS: u32 = 64;
 
-/// The most registers of a thread.
+/// The greatest number of registers of a thread.
 pub const MOST_REGISTERS: u32 = 16;
 
-/// The most globals.
+/// The greatest number of globals.
 pub const MOST_GLOBALS: u32 = 64;
 
-/// The most layouts.
+/// The greatest number of layouts.
 pub const MOST_LAYOUTS: usize = 64;
 
-/// The most objects that are ever born.
+/// The greatest limit of births.
 pub const MOST_BIRTHS: u64 = 4_294_967_296;

@@ -1,4 +1,4 @@
-//! Lists of numbers behind a command's operands.
+//! Lists of numbers after a command's operands.
 
 ghost use Rattle.std.specs.Prelude.{◌≡◌, [], IfOk};
 
@@ -6,8 +6,8 @@ use std::alloc::{AllocError, AllocFailed, Global};
 use std::marker::Model;
 use std::sync::Arc;
 
-/// A list of numbers of 32 bits, which the commands of a block share, however often the block is
-/// done. An empty one takes no memory. A contract sees the list.
+/// A list of numbers of 32 bits. All turns of a block share the lists of its commands. An empty one takes no memory.
+/// A contract sees the list.
 #[derive(Drop)]
 pub struct NumberList {
     numbers: Option<Arc<Vec<u32>>>,
@@ -23,14 +23,14 @@ impl Model for NumberList {
 }
 
 impl NumberList {
-    /// No numbers.
+    /// Returns an empty list.
     pub fn none() -> NumberList
         ensures { result ≡ [] }
     {
         NumberList { numbers: None }
     }
 
-    /// These numbers. The error is want of memory.
+    /// Returns a list of these numbers. Fails only if out of memory.
     pub fn new(alloc: Global, numbers: Vec<u32>) -> Result<NumberList, AllocFailed<Vec<u32>>>
         ensures { IfOk result (λ list. list ≡ numbers.items) }
     {
@@ -43,7 +43,7 @@ impl NumberList {
         })
     }
 
-    /// The numbers in order.
+    /// Returns the numbers in order.
     pub fn as_slice(&self) -> &[u32]
         ensures { result.now ≡ self.now }
     {
@@ -53,7 +53,7 @@ impl NumberList {
         }
     }
 
-    /// The same list once more, which takes no memory. The error is that it is shared too often.
+    /// Returns the list once more, which takes no memory. Fails only if it is shared too often.
     pub fn share(&self) -> Result<NumberList, AllocError>
         ensures { IfOk result (λ list. list ≡ self.now) }
     {

@@ -9,32 +9,30 @@ use crate::verbs::Verb;
 use model::{Actor, PageList, Step};
 use std::alloc::{AllocError, Global};
 
-/// What a command asks for: its verb, and the verb's operands in the order of their words. One that
-/// the verb hasn't is 0. Registers count from 0 and are there; other numbers that a step can refuse
-/// are as the script has them. Scripts and their orders are ours.
+/// An order: a verb, and its operands in the order of their words. Operands that the verb doesn't have are 0.
+/// Registers count from 0 and exist; other numbers that a step can reject are as in the script.
 #[derive(Drop)]
 pub struct Order {
-    /// What is done.
+    /// The verb.
     pub verb: Verb,
     /// The first operand of 32 bits.
     pub first: u32,
-    /// The second one.
+    /// The second operand of 32 bits.
     pub second: u32,
-    /// The third one.
+    /// The third operand of 32 bits.
     pub third: u32,
-    /// The operand of 64 bits, which stands behind the others. An address is its page times 2^32,
-    /// and its offset.
+    /// The operand of 64 bits, which follows the others. An address is its page times 2^32, plus its offset.
     pub wide: u64,
-    /// The numbers behind the operands, of a verb that takes more.
+    /// The numbers after the operands, for a verb that allows them.
     pub more: NumberList,
 }
 
 /// One command of a script.
 #[derive(Drop)]
 pub struct Command {
-    /// Who does it.
+    /// The actor that does it.
     pub actor: Actor,
-    /// What it does.
+    /// Its order.
     pub order: Order,
 }
 
@@ -45,20 +43,18 @@ pub enum Then {
     Nothing,
     /// The other steps of the load that it opens, to its end.
     LoadsEnd,
-    /// All steps of a worker that scan, until none is left or one is refused. The order's step is
-    /// the first of them where the worker has an object.
+    /// All steps of a worker that scan, until none is left or one is rejected. The order's step is the first of them
+    /// if the worker is scanning an object.
     Drains,
     /// All steps of a cycle, in a run by threads. The order's step is the first of them.
     Cycles,
-    /// The steps of a cycle up to where pages are protected, in a run by threads. The order's step is
-    /// the first of them.
+    /// The steps of a cycle until pages are protected, in a run by threads. The order's step is the first of them.
     Rolls,
 }
 
 impl Order {
-    /// The step that it asks for; of `get` and `getg` the first step, which opens the load; of
-    /// `drain` the step that it begins with where the worker has an object. The error is want of
-    /// memory, and comes of `protect` alone.
+    /// Returns the order's step; for `get` and `getg` the first one, which opens the load; for `drain` the one with
+    /// which it begins if the worker is scanning an object. Fails only if out of memory, and only for `protect`.
     pub fn step(&self, alloc: Global) -> Result<Step, AllocError>
         ensures value { IfOk result (λ step. step ≡ step_of self.now) }
         ensures fault { OnErr result (self.now.verb ≡ Verb.Protect) }
@@ -114,8 +110,7 @@ impl Order {
         Ok(step)
     }
 
-    /// The same order once more, which takes no memory. The error is that its numbers are shared
-    /// too often.
+    /// Returns the order once more, which takes no memory. Fails only if its numbers are shared too often.
     fn share(&self) -> Result<Order, AllocError>
         ensures { IfOk result (λ order. order ≡ self.now) }
     {
@@ -130,7 +125,7 @@ impl Order {
         })
     }
 
-    /// What follows the step, once it is done.
+    /// Returns what follows the step, once it is done.
     pub fn then(&self) -> Then
         ensures { result ≡ then_of self.now }
     {
@@ -145,8 +140,7 @@ impl Order {
 }
 
 impl Command {
-    /// The same command once more, which takes no memory. The error is that its order's numbers are
-    /// shared too often.
+    /// Returns the command once more, which takes no memory. Fails only if its order's numbers are shared too often.
     pub fn share(&self) -> Result<Command, AllocError>
         ensures { IfOk result (λ command. command ≡ self.now) }
     {
@@ -194,7 +188,7 @@ fn set_datum(object: u32, index: u32, value: u64) -> Step
     }
 }
 
-/// The step that protects a page and others. The error is want of memory.
+/// Returns the step that protects a page and others. Fails only if out of memory.
 fn protect(alloc: Global, page: u32, others: &[u32]) -> Result<Step, AllocError>
     ensures { IfOk result (λ step. step ≡ Step.Protect (page ∷ others.now)) }
 {
@@ -210,7 +204,7 @@ fn copy(page: u32, entry: u32) -> Step
     Step::Copy { page, entry }
 }
 
-/// The step that picks an address of 64 bits.
+/// Returns the step that picks the object at an address of 64 bits.
 fn pick(address: u64) -> Step
     ensures { result ≡ Step.Pick (page_in address) (offset_in address) }
 {

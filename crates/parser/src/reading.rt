@@ -18,10 +18,10 @@ use model::Config;
 use std::alloc::{AllocError, Global};
 use std::marker::Model;
 
-/// The most commands of a script, with those of a block as often as it says. Each takes 48 bytes.
+/// The greatest number of commands of a script, counting a block's for each of its turns. Each takes 48 bytes.
 pub const MOST_COMMANDS: usize = 200_000;
 
-/// The most turns of a block.
+/// The greatest number of turns of a block.
 pub const MOST_TURNS: u64 = 100_000;
 
 /// What was read so far.
@@ -34,7 +34,7 @@ pub struct Reading {
     begun: bool,
     /// The commands outside the open block.
     commands: Vec<Command>,
-    /// How often the open block is done, where one is.
+    /// The turns of the open block, if there is one.
     turns: Option<u64>,
     /// The commands of the open block.
     body: Vec<Command>,
@@ -75,7 +75,7 @@ fn flaw(kind: FaultKind) -> Stop
 }
 
 impl Reading {
-    /// Nothing is read.
+    /// Returns the state before the first line.
     fn new(alloc: Global) -> Reading
         ensures { result ≡ nothing }
     {
@@ -151,7 +151,7 @@ impl Reading {
         self.add(Command { actor, order })
     }
 
-    /// A block begins.
+    /// Reads the line that begins a block.
     #[tactic(auto, unfolding(crate::specs::Reading::times_line))]
     fn times_line(&mut self, line: &[u8], at: usize) -> Result<(), Stop>
         requires { at ≡ (first_word line.now).1 }
@@ -168,7 +168,7 @@ impl Reading {
         Ok(())
     }
 
-    /// A block ends: its commands stand as often as it says.
+    /// Reads the line that ends a block: its commands are repeated for each of its turns.
     #[tactic(auto, unfolding(crate::specs::Reading::end_line))]
     fn end_line(&mut self, line: &[u8], at: usize) -> Result<(), Stop>
         requires { at ≡ (first_word line.now).1 }
@@ -215,7 +215,7 @@ impl Reading {
         }
     }
 
-    /// Takes the next line, without its newline. After an error nothing more is read.
+    /// Reads the next line, without its newline. After an error no more lines may be read.
     #[tactic(auto, unfolding(crate::specs::Reading::line_in))]
     fn line(&mut self, line: &[u8]) -> Result<(), Stop>
         ensures { Follows result self.new (line_in self.old line.now) }
@@ -229,7 +229,7 @@ impl Reading {
         }
     }
 
-    /// What was read, where the lines are at their end.
+    /// Returns what was read, at the end of the lines. `number` is that of the line after them.
     #[tactic(auto, unfolding(crate::specs::Reading::finished))]
     fn finished(self, number: usize) -> Result<(Config, Vec<Command>), ParseFault>
         ensures { Gives (λ x. script_of x.0 x.1.items) result (finished number self) }
@@ -260,7 +260,7 @@ impl Reading {
         }))
     }
 
-    /// What was read, where `rest` stands behind the last newline.
+    /// Returns what was read, if the bytes after the last newline are `rest`.
     #[tactic(auto, unfolding(crate::specs::Reading::last_line))]
     fn last_line(mut self, number: usize, rest: &[u8]) -> Result<(Config, Vec<Command>), ParseFault>
         ensures { Gives (λ x. script_of x.0 x.1.items) result (last_line number self rest.now) }
@@ -284,14 +284,14 @@ impl Reading {
     }
 }
 
-/// Whether commands, with a block behind them as often as it says, are more than a script may have.
+/// Returns whether commands, with a block's for each of its turns, are more than a script may have.
 fn passes_limit(commands: usize, turns: u64, body: usize) -> bool
     ensures { result ≡ nat_lt MOST_COMMANDS (commands + turns * body) }
 {
     commands as u128 + turns as u128 * body as u128 > MOST_COMMANDS as u128
 }
 
-/// The commands of a block behind others, as often as the block says. An empty block takes no time.
+/// Appends the commands of a block for each of its turns. An empty block takes no time. Fails only if out of memory.
 fn add_turns(commands: &mut Vec<Command>, turns: u64, body: &[Command]) -> Result<(), AllocError>
     ensures { OnOk result (commands.new.items ≡ commands.old.items ++ repeat turns body.now) }
 {
@@ -304,7 +304,7 @@ fn add_turns(commands: &mut Vec<Command>, turns: u64, body: &[Command]) -> Resul
     Ok(())
 }
 
-/// The commands of a block behind others.
+/// Appends the commands of a block. Fails only if out of memory.
 fn add_body(commands: &mut Vec<Command>, body: &[Command]) -> Result<(), AllocError>
     ensures { OnOk result (commands.new.items ≡ commands.old.items ++ body.now) }
 {
@@ -321,7 +321,7 @@ fn first_newline(rest: &[u8]) -> Option<usize>
     rest.iter().position(|b| *b == b'\n')
 }
 
-/// The first line, and what stands behind its newline.
+/// Returns the first line, and the bytes after its newline.
 pub fn cut_line(rest: &[u8]) -> Option<(&[u8], &[u8])>
     ensures some { IfSome result (λ x. CutsLine rest.now x.0.now x.1.now) }
     ensures none { IfNone result (HasNoNewline rest.now) }
@@ -350,7 +350,7 @@ fn read_line(reading: &mut Reading, number: usize, line: &[u8]) -> Result<(), Pa
     }
 }
 
-/// The configuration and the commands of a script, or its first fault.
+/// Returns the configuration and the commands of a script, or its first fault.
 #[tactic(auto, using(crate::proofs::Lines::step_ok, crate::proofs::Lines::step_err, crate::proofs::Lines::lines_last), unfolding(crate::specs::Reading::script_in))]
 pub fn read(alloc: Global, bytes: &[u8]) -> Result<(Config, Vec<Command>), ParseFault>
     ensures { Gives (λ x. script_of x.0 x.1.items) result (script_in bytes.now) }

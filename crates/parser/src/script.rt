@@ -1,4 +1,4 @@
-//! A script as a whole.
+//! A complete script.
 
 ghost use Rattle.std.specs.Prelude.{◌≡◌, ◌↔◌, ℕ, List, IfOk, IfSome};
 ghost use Rattle.std.specs.Option.{is_some};
@@ -22,16 +22,16 @@ use model::Config;
 use std::alloc::Global;
 use std::marker::Model;
 
-/// The most bytes of a script.
+/// The greatest number of bytes of a script.
 pub const MOST_BYTES: usize = 4_194_304;
 
-/// A script: the configuration of its heap, and its commands in order. All its numbers are in
-/// their ranges, and its actors and registers are there.
+/// A script: the configuration of its heap, and its commands in order. All its numbers are in their ranges, and its
+/// actors and registers exist.
 #[derive(Drop)]
 pub struct Script {
     config: Config,
     commands: Vec<Command>,
-    /// Where its commands stand that not every run does.
+    /// The places of its first commands that not every kind of run does.
     spots: Spots,
 }
 
@@ -47,7 +47,7 @@ impl Model for Script {
 }
 
 impl Script {
-    /// The configuration of its heap.
+    /// Returns the configuration of its heap.
     pub fn config(&self) -> &Config
         ensures value { result.now ≡ self.now.config }
         ensures valid { IsConfig result.now }
@@ -56,7 +56,7 @@ impl Script {
         &self.config
     }
 
-    /// Its commands in order.
+    /// Returns its commands in order.
     pub fn commands(&self) -> &[Command]
         ensures value { result.now ≡ self.now.commands }
         ensures valid { All (IsCommand self.now.config) result.now }
@@ -64,7 +64,7 @@ impl Script {
         &self.commands
     }
 
-    /// Where its first commands stand that not every run does.
+    /// Returns the places of its first commands that not every kind of run does.
     pub fn spots(&self) -> Spots
         ensures value { result ≡ self.now.spots }
         ensures cycle { is_some result.cycle ≡ needs_threads self.now.commands }
@@ -73,7 +73,7 @@ impl Script {
         self.spots
     }
 
-    /// The configuration and the commands.
+    /// Returns the configuration and the commands.
     pub fn into_parts(self) -> (Config, Vec<Command>)
         ensures config { result.0 ≡ self.config }
         ensures commands { result.1.items ≡ self.commands }
@@ -88,28 +88,30 @@ impl Script {
     }
 }
 
-/// The script that the bytes spell, or why they spell none: they are too many, there is a first
-/// fault, or memory was refused.
+/// Returns the script that the bytes spell. Fails with `TooLong` if there are more than `MOST_BYTES`, with the first
+/// fault, or with `Memory`.
 #[tactic(auto, using(crate::proofs::Promises::read_spelled))]
 pub fn parse(alloc: Global, bytes: &[u8]) -> Result<Script, ParseFault>
-    // It is the script that reading gives, or its first fault.
+    // It is the script that reading defines, or its first fault.
     ensures read { IsReadOf result (script_in bytes.now) }
     ensures too_long { (result ≡ Err ParseFault.TooLong) ↔ IsTooLong bytes.now }
 
-    // What is read keeps to all limits, and the bytes spell it.
+    // The script is within all limits, and the bytes spell it.
     ensures valid { IfOk result (λ s. IsScript (script_alone s)) }
     ensures spelled { IfOk result (λ s. Spells bytes.now (script_alone s)) }
 
-    // Where its first commands stand that not every run does is said by the lines: at the verb's word of a command, and
-    // no line before is such a command.
+    // The places of its first commands that not every kind of run does, by the lines: at the verb's word of such a
+    // command, and no line before is one.
     ensures spots { IfOk result (λ s. s.spots ≡ spots_in bytes.now) }
     ensures cycle { IfOk result (λ s. IfSome s.spots.cycle (IsFirstSpot sought.Cycle s.config bytes.now)) }
     ensures other { IfOk result (λ s. IfSome s.spots.other (IsFirstSpot sought.Other s.config bytes.now)) }
 
-    // What the bytes spell within all limits is read, unless they are too many or memory is refused.
+    // A script within all limits that the bytes spell is returned, unless there are too many bytes or it is out of
+    // memory.
     ensures only { (s : ScriptValue) → IsScript s → Spells bytes.now s → IsReadOf result (Ok s) }
 
-    // A fault is the first one: the lines before it have none, and up to the end of its word the bytes begin no script.
+    // A fault is the first one: the lines before it have none, and the bytes up to the end of its word begin no
+    // script.
     ensures first { TellsFirst bytes.now result }
 {
     if bytes.len() > MOST_BYTES {
@@ -128,7 +130,7 @@ pub fn one_reading()
     ensures { (bytes : List ℕ) (s t : ScriptValue) → IsScript s → IsScript t → Spells bytes s → Spells bytes t → s ≡ t }
 {}
 
-/// A text has first faults in one line alone, where no block has too many commands. It does nothing: its contract is
+/// All first faults of a text are in one line, if no block has too many commands. It does nothing: its contract is
 /// the law.
 pub fn one_first_line()
     ensures { (bytes : List ℕ) (one other : LineFault) → FaultsShareLine bytes one other }

@@ -1,4 +1,4 @@
-//! Where commands stand that not every run does (ours).
+//! The places of commands that not every kind of run does.
 
 ghost use Rattle.std.specs.Prelude.{◌≡◌, if◌then◌else◌, Some, None};
 ghost use Rattle.std.specs.List.{slice_split};
@@ -10,27 +10,27 @@ use crate::fault::{FaultKind, LineFault};
 use crate::reading::{cut_line, first_word};
 use crate::words::word_at;
 
-/// The first command that a run by threads alone does, and the first that such a run doesn't do, each
-/// as the fault that it is in the other kind of run.
+/// The first command that only a run by threads does, and the first that such a run doesn't do, each as its fault in
+/// the other kind of run.
 #[derive(Clone, Copy, Debug, PartialEq, Eq)]
 pub struct Spots {
-    /// The first cycle, or first part of one.
+    /// The first cycle, or first half of one.
     pub cycle: Option<LineFault>,
-    /// The first command of a worker that is none of these of worker 0.
+    /// The first command of a worker other than these of worker 0.
     pub other: Option<LineFault>,
 }
 
-/// Which command is sought.
+/// The command that is searched for.
 #[derive(Clone, Copy)]
 pub enum Sought {
-    /// A cycle, or the first part of one.
+    /// A cycle, or the first half of one.
     Cycle,
-    /// A command of a worker that is none of these of worker 0.
+    /// A command of a worker other than these of worker 0.
     Other,
 }
 
 impl Sought {
-    /// The fault that such a command is in the other kind of run.
+    /// Returns the fault of such a command in the other kind of run.
     fn fault(self) -> FaultKind
         ensures { result ≡ fault_of self }
     {
@@ -40,7 +40,7 @@ impl Sought {
         }
     }
 
-    /// Whether a line is such a command.
+    /// Returns whether a line is such a command.
     fn is_line(self, line: &[u8]) -> bool
         ensures { result ≡ is_sought self line.now }
     {
@@ -55,7 +55,7 @@ impl Sought {
         }
     }
 
-    /// The fault of a line with this number, where it is such a command.
+    /// Returns the fault of a line with this number, if it is such a command.
     #[tactic(auto, using(crate::proofs::FirstSpots::second_place))]
     fn in_line(self, number: usize, line: &[u8]) -> Option<LineFault>
         ensures { result ≡ (if is_sought self line.now then Some (fault_at (fault_of self) number line.now) else None) }
@@ -71,7 +71,7 @@ impl Sought {
         })
     }
 
-    /// The fault of the first line that is such a command.
+    /// Returns the fault of the first line that is such a command.
     #[tactic(auto, using(crate::proofs::FirstSpots::spot_is, crate::proofs::FirstSpots::spot_here, crate::proofs::FirstSpots::spot_later, crate::proofs::FirstSpots::spot_last))]
     fn first_in(self, bytes: &[u8]) -> Option<LineFault>
         ensures { result ≡ first_spot self (slice_split newline bytes.now) }
@@ -89,7 +89,7 @@ impl Sought {
     }
 }
 
-/// The second word of a line, or an empty one.
+/// Returns the second word of a line, or an empty one.
 #[tactic(auto, unfolding(crate::specs::Spots::second_word))]
 fn second_word(line: &[u8]) -> &[u8]
     ensures { result.now ≡ second_word line.now }
@@ -101,14 +101,14 @@ fn second_word(line: &[u8]) -> &[u8]
     }
 }
 
-/// Whether a word is that of a cycle, or of the first part of one.
+/// Returns whether a word is that of a cycle, or of the first half of one.
 fn is_cycle_word(word: &[u8]) -> bool
     ensures { result ≡ is_cycle_word word.now }
 {
     word == b"cycle".as_slice() || word == b"roll".as_slice()
 }
 
-/// The spots of a script's bytes.
+/// Returns the spots of a script.
 #[tactic(auto, unfolding(crate::specs::Spots::spots_in))]
 pub fn find_spots(bytes: &[u8]) -> Spots
     ensures { result ≡ spots_in bytes.now }

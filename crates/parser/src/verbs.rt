@@ -5,16 +5,16 @@ ghost use Rattle.std.specs.Prelude.{true, false};
 ghost use Rattle.parser.specs.declared.verbs.Kind.TheVariants.{Nothing};
 ghost use Rattle.parser.specs.Verbs.{row_of, verb_of, is_for_worker, IsSmall, IsWide};
 
-/// What an operand is.
+/// The kind of an operand.
 #[derive(Clone, Copy, Debug, PartialEq, Eq)]
 pub enum Kind {
     /// There is none.
     Nothing,
-    /// A register that is there.
+    /// A register that exists.
     Register,
     /// A number of 32 bits.
     Number,
-    /// A thread that is there.
+    /// A thread that exists.
     ThreadName,
     /// A number of 64 bits.
     Long,
@@ -24,8 +24,8 @@ pub enum Kind {
     Percent,
 }
 
-/// What a command does: its word, with the operands that stand behind it (ours). Registers,
-/// globals and threads count from 0, pages from 1; offsets are in words.
+/// A command's verb: its word, with its operands. Registers, globals and threads count from 0, pages from 1; offsets
+/// are in words.
 #[derive(Clone, Copy, Debug, PartialEq, Eq)]
 pub enum Verb {
     /// `take n`
@@ -68,9 +68,9 @@ pub enum Verb {
     Park,
     /// `unpark`
     Unpark,
-    /// `get rD rO i`: a field is loaded, and the load goes on to its end.
+    /// `get rD rO i`: a complete load of a field.
     Get,
-    /// `getg rD g`: a global is loaded, and the load goes on to its end.
+    /// `getg rD g`: a complete load of a global.
     GetGlobal,
     /// `mark`
     Mark,
@@ -84,7 +84,7 @@ pub enum Verb {
     ScanGlobal,
     /// `crossfor tN`
     CrossFor,
-    /// `drain`: a worker scans until nothing is left that it could scan.
+    /// `drain`: a worker scans until nothing is left that it can scan.
     Drain,
     /// `protect P P ..`
     Protect,
@@ -94,14 +94,14 @@ pub enum Verb {
     CopyAll,
     /// `release P`
     Release,
-    /// `cycle p`: a whole cycle, in a run by threads.
+    /// `cycle p`: a complete cycle, in a run by threads.
     Cycle,
-    /// `roll p`: a cycle up to where pages are protected, in a run by threads. The next mark copies what
-    /// it meets of them.
+    /// `roll p`: a cycle until pages are protected, in a run by threads. The next mark copies the objects that it
+    /// meets there.
     Roll,
 }
 
-/// All verbs. A word that isn't the verb that it is likely to be is compared with theirs in this order.
+/// All verbs, in the order in which a word is compared with them if the guess by `likely` is wrong.
 const VERBS: [Verb; 35] = [
     Verb::Get,
     Verb::Set,
@@ -140,18 +140,18 @@ const VERBS: [Verb; 35] = [
     Verb::Roll,
 ];
 
-/// The kinds of an order's operands. The first three have 32 bits.
+/// The kinds of a verb's operands. The first three have 32 bits.
 #[derive(Clone, Copy, Debug, PartialEq, Eq)]
 pub struct Kinds {
-    /// Of the first operand.
+    /// The kind of the first operand.
     pub first: Kind,
-    /// Of the second one.
+    /// The kind of the second one.
     pub second: Kind,
-    /// Of the third one.
+    /// The kind of the third one.
     pub third: Kind,
-    /// Of one of 64 bits, which stands behind the others.
+    /// The kind of the operand of 64 bits, which follows the others.
     pub wide: Kind,
-    /// Whether any number of numbers of 32 bits may stand behind all, to the end of the line.
+    /// Whether any number of numbers of 32 bits may follow, to the end of the line.
     pub more: bool,
 }
 
@@ -167,7 +167,7 @@ fn make_kinds(first: Kind, second: Kind, third: Kind, wide: Kind) -> Kinds
     }
 }
 
-/// One operand, and more numbers behind it.
+/// Returns the kinds of one operand, with more numbers after it.
 fn with_more(first: Kind) -> Kinds
     ensures { result ≡ record { first = first; second = Nothing; third = Nothing; wide = Nothing; more = true } }
 {
@@ -181,7 +181,7 @@ fn with_more(first: Kind) -> Kinds
 }
 
 impl Verb {
-    /// Its word.
+    /// Returns its word.
     fn text(self) -> &'static [u8]
         ensures { result.now ≡ (row_of self).text }
     {
@@ -224,7 +224,7 @@ impl Verb {
         }
     }
 
-    /// The kinds of its operands.
+    /// Returns the kinds of its operands.
     pub fn kinds(self) -> Kinds
         ensures value { result ≡ (row_of self).kinds }
         ensures small { IsSmall result.first × (IsSmall result.second × IsSmall result.third) }
@@ -255,7 +255,7 @@ impl Verb {
         }
     }
 
-    /// Whether workers do it. All other verbs are done by threads.
+    /// Returns whether workers do it. Threads do all other verbs.
     pub fn is_for_worker(self) -> bool
         ensures { result ≡ is_for_worker self }
     {
@@ -278,8 +278,8 @@ impl Verb {
     }
 }
 
-/// A guess which verb a word is, by its first byte, its third one and its length. It is right of each verb's word;
-/// nothing rests on this but time, since the word is compared with the guess.
+/// Returns a guess which verb a word is, by its first byte, its third one and its length. It is right for each verb's
+/// word; only the time depends on it, since the word is then compared with that verb's.
 fn likely(first: u8, third: u8, length: usize) -> Verb {
     match first {
         b'c' => match third {
@@ -318,7 +318,7 @@ fn likely(first: u8, third: u8, length: usize) -> Verb {
     }
 }
 
-/// Such a guess of a word that begins with `s`.
+/// Returns such a guess for a word that begins with `s`.
 fn likely_in_s(third: u8, length: usize) -> Verb {
     match third {
         b't' => Verb::Set,
@@ -331,7 +331,7 @@ fn likely_in_s(third: u8, length: usize) -> Verb {
     }
 }
 
-/// The verb that a word is, sought among all.
+/// Returns the verb of a word, by comparison with all.
 #[tactic(auto, unfolding(crate::specs::Verbs::verb_of))]
 fn sought(word: &[u8]) -> Option<Verb>
     ensures { result ≡ verb_of word.now }
@@ -339,7 +339,7 @@ fn sought(word: &[u8]) -> Option<Verb>
     VERBS.iter().copied().find(|verb| word == verb.text())
 }
 
-/// The verb that a word is.
+/// Returns the verb of a word.
 #[tactic(auto, using(crate::proofs::ActorsAndOrders::verb_met))]
 pub fn verb_of(word: &[u8]) -> Option<Verb>
     ensures { result ≡ verb_of word.now }

@@ -1,5 +1,5 @@
-//! The words of a line, from left to right. A place is the index of a word's first byte; it is one
-//! past the line's length where no word is left.
+//! The words of a line, from left to right. A place is the index of a word's first byte; after the last word it is
+//! the line's length plus one.
 
 ghost use Rattle.std.specs.Prelude.{◌==◌, position, ◌≡◌, ◌+◌, ◌-◌, ◌*◌, ◌^◌, ◌≤◌, ◌<◌, length, min, true, IfOk, IfSome};
 ghost use Rattle.std.specs.Option.{option_map};
@@ -17,7 +17,7 @@ fn first_space(rest: &[u8]) -> Option<usize>
     rest.iter().position(|b| *b == b' ')
 }
 
-/// The word at a place, and the place after it. It may be empty.
+/// Returns the word at a place, and the place after it. It may be empty.
 #[inline(always)]
 #[tactic(auto, unfolding(crate::specs::Words::word_at))]
 pub fn word_at(line: &[u8], at: usize) -> Option<(&[u8], usize)>
@@ -37,7 +37,7 @@ pub fn word_at(line: &[u8], at: usize) -> Option<(&[u8], usize)>
     }
 }
 
-/// The word at a place, or this kind of fault where it is missing.
+/// Returns the word at a place, and the place after it, or this kind of fault if it is missing.
 #[inline(always)]
 #[tactic(auto, unfolding(crate::specs::Words::word_or))]
 pub fn word_or(line: &[u8], at: usize, kind: FaultKind) -> Result<(&[u8], usize), Flaw>
@@ -53,7 +53,7 @@ pub fn word_or(line: &[u8], at: usize, kind: FaultKind) -> Result<(&[u8], usize)
     }
 }
 
-/// The place after a word that has to stand at a place.
+/// Returns the place after a word that is required at a place.
 #[tactic(auto, unfolding(crate::specs::Words::fixed_at))]
 pub fn fixed_at(line: &[u8], at: usize, text: &[u8], kind: FaultKind) -> Result<usize, Flaw>
     ensures { result ≡ fixed_at line.now at text.now kind }
@@ -69,7 +69,7 @@ pub fn fixed_at(line: &[u8], at: usize, text: &[u8], kind: FaultKind) -> Result<
     }
 }
 
-/// Whether a word is a number: digits, with no zero before others.
+/// Returns whether a word is a number: digits, without leading zeros.
 #[tactic(auto, unfolding(crate::specs::Words::is_number))]
 fn is_number(word: &[u8]) -> bool
     ensures { result ≡ is_number word.now }
@@ -83,7 +83,7 @@ fn all_digits(word: &[u8]) -> bool
     word.iter().all(|b| *b >= b'0' && *b <= b'9')
 }
 
-/// The number that digits stand for, or 2^64 where that is less.
+/// Returns the number that digits represent, at most 2^64.
 #[tactic(auto, unfolding(crate::specs::Words::capped_from))]
 fn capped(digits: &[u8]) -> u128
     ensures { result ≡ capped_from 0 digits.now }
@@ -96,7 +96,7 @@ fn capped(digits: &[u8]) -> u128
     value
 }
 
-/// A number with one digit more, below 2^64. None for another byte, and for a large number.
+/// Returns a number with one more digit, if it is below 2^64. `None` for another byte, and for a large number.
 fn with_digit(value: u64, byte: u8) -> Option<u64>
     ensures digit { IfSome result (λ _. is_digit byte ≡ true) }
     ensures value { IfSome result (λ next. next ≡ min (value * 10 + (byte - 48)) (2 ^ 64)) }
@@ -107,7 +107,7 @@ fn with_digit(value: u64, byte: u8) -> Option<u64>
     Some(value * 10 + u64::from(byte - b'0'))
 }
 
-/// The number that digits stand for, read in 64 bits. None where a byte is no digit, and for a large number.
+/// Returns the number that digits represent, read in 64 bits. `None` if a byte is no digit, and for a large number.
 #[tactic(auto, unfolding(crate::specs::Words::capped_from))]
 fn short(word: &[u8]) -> Option<u64>
     ensures digits { IfSome result (λ _. list_all is_digit word.now ≡ true) }
@@ -120,7 +120,7 @@ fn short(word: &[u8]) -> Option<u64>
     Some(value)
 }
 
-/// The number that a word is, read in 64 bits. None where it is no number, and for a large one.
+/// Returns the number of a word, read in 64 bits. `None` if it is no number, and for a large one.
 #[tactic(auto, unfolding(crate::specs::Words::is_number))]
 fn short_number_in(word: &[u8]) -> Option<u64>
     ensures number { IfSome result (λ _. is_number word.now ≡ true) }
@@ -132,7 +132,7 @@ fn short_number_in(word: &[u8]) -> Option<u64>
     short(word)
 }
 
-/// The number that a word is, or 2^64 where that is less; none where it is no number.
+/// Returns the number of a word, at most 2^64. `None` if it is no number.
 #[inline]
 fn number_in(word: &[u8]) -> Option<u128>
     ensures { result ≡ number_in word.now }
@@ -143,7 +143,7 @@ fn number_in(word: &[u8]) -> Option<u128>
     }
 }
 
-/// The same of any word, digit by digit in 128 bits.
+/// Returns the same for any word, digit by digit in 128 bits.
 #[cold]
 #[inline(never)]
 fn long_number_in(word: &[u8]) -> Option<u128>
@@ -156,7 +156,7 @@ fn long_number_in(word: &[u8]) -> Option<u128>
     }
 }
 
-/// A number from `low` to `high` at a place, and the place after it.
+/// Returns a number from `low` to `high` at a place, and the place after it.
 #[tactic(auto, unfolding(crate::specs::Words::number_at))]
 pub fn number_at(line: &[u8], at: usize, low: u64, high: u64) -> Result<(u64, usize), Flaw>
     ensures found { result ≡ number_at line.now at low high }
@@ -179,7 +179,7 @@ pub fn number_at(line: &[u8], at: usize, low: u64, high: u64) -> Result<(u64, us
     Ok((value as u64, after))
 }
 
-/// A number of 32 bits at a place, and the place after it.
+/// Returns a number of 32 bits at a place, and the place after it.
 #[tactic(auto, unfolding(crate::specs::Words::small_at))]
 pub fn small_at(line: &[u8], at: usize) -> Result<(u32, usize), Flaw>
     ensures { result ≡ small_at line.now at }
@@ -188,7 +188,8 @@ pub fn small_at(line: &[u8], at: usize) -> Result<(u32, usize), Flaw>
     Ok((value as u32, after))
 }
 
-/// The number in a word that is a letter and a number below `count`, and the place after the word.
+/// Returns the number of a word at a place, which must be a letter and a number below `count`, and the place after
+/// it.
 #[inline(always)]
 #[tactic(auto, unfolding(crate::specs::Words::named_at))]
 pub fn named_at(
@@ -204,7 +205,7 @@ pub fn named_at(
     named_in(word, after, at, letter, count, missing)
 }
 
-/// The number in such a word, which stands at a place, and the place after the word.
+/// Returns the number of such a word, by the word and the place after it, and that place.
 #[inline(always)]
 pub fn named_in(
     word: &[u8],
@@ -246,7 +247,7 @@ fn first_point(word: &[u8]) -> Option<usize>
     word.iter().position(|b| *b == b'.')
 }
 
-/// The parts of a word before and behind its first point.
+/// Returns the parts of a word before and after its first period.
 #[tactic(auto, unfolding(crate::specs::Words::point_parts))]
 fn point_parts(word: &[u8]) -> Option<(&[u8], &[u8])>
     ensures { option_map (λ x. (x.0.now, x.1.now)) result ≡ point_parts word.now }
@@ -257,8 +258,7 @@ fn point_parts(word: &[u8]) -> Option<(&[u8], &[u8])>
     Some((page, offset))
 }
 
-/// The address in a word `P.O` with O below `words`, as P times 2^32 and O, and the place after the
-/// word.
+/// Returns the address in a word `P.O` with O below `words`, as P times 2^32 plus O, and the place after the word.
 #[tactic(auto, unfolding(crate::specs::Words::address_at))]
 pub fn address_at(line: &[u8], at: usize, words: u32) -> Result<(u64, usize), Flaw>
     ensures { result ≡ address_at line.now at words }
@@ -283,7 +283,7 @@ pub fn address_at(line: &[u8], at: usize, words: u32) -> Result<(u64, usize), Fl
     Ok(((page * (1 << 32) + offset) as u64, after))
 }
 
-/// Nothing at a place that is past the line's end, or the fault that the line goes on.
+/// Tests that a place is past the line's end. Fails if the line continues.
 #[tactic(auto, unfolding(crate::specs::Words::end_at))]
 pub fn end_at(line: &[u8], at: usize) -> Result<(), Flaw>
     ensures { result ≡ end_at line.now at }

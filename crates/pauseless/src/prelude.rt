@@ -1,4 +1,4 @@
-//! What a program on the library uses mostly: `use pauseless::prelude::*`.
+//! The names that most programs on the library use: `use pauseless::prelude::*`.
 //!
 //! It has the heap with its configuration, the trait `HeapCalls`, whose methods are the heap's calls, and the types of
 //! the numbers that these take.

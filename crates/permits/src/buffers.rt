@@ -1,4 +1,4 @@
-//! Buffers that may be lent for writing.
+//! Buffers that may be borrowed for writing.
 
 ghost use Rattle.std.specs.Prelude.{◌≡◌, MatchBool};
 ghost use Rattle.model.specs.Owning.{LiesIn};

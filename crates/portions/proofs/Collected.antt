@@ -215,7 +215,7 @@ loads_apart t object n (l ∷ ls) h g r (inl k) a = loads_apart t object (n + 1)
 loads_apart t object n (l ∷ ls) h g r (inr k) a =
     load_apart h g t (steps.Load l.target object l.field) (Err k.0) refl k.1.0 a
 
--- ---- what is made stands, after crossings too
+-- ---- the promises of a new object, after crossings too
 
 pub making_stands : (t target layout : ℕ) (h m g : HeapState) (r : Result ℕ Refusal)
     → MakingStands t target layout h r m → StandsForSame m g → MakingStands t target layout h r g

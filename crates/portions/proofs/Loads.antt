@@ -135,7 +135,7 @@ module _ (h : HeapState) (t : ℕ) where
 
 -- ---- a load begins
 
--- thread t is there, runs, and has a barrier now; else nothing has changed
+-- thread t exists, runs, and has a barrier now; else nothing has changed
 record Opens (h : HeapState) (t : ℕ) (g : HeapState) : Type 0 where
   barrier : Barrier
   counter : Counter
@@ -152,7 +152,7 @@ load_global_opens : (h : HeapState) (t target g : ℕ)
 unfolding load_global_outcome
 load_global_opens h t target g = record { barrier = _; counter = counters.Loads; is = refl }
 
--- a thread is there, and isn't parked
+-- a thread exists, and isn't parked
 abbrev IsRunning : HeapState → ℕ → Type 0
 IsRunning h t = (nat_le (length h.threads) t ≡ false) × (is_parked_in (slice_get h.threads t) ≡ false)
 
@@ -164,7 +164,7 @@ and_true : (b : Bool) → (b && true) ≡ false → b ≡ false
 and_true true e = e
 and_true false e = refl
 
--- a thread that has passed these tests is there, and runs
+-- a thread that has passed these tests exists, and runs
 gate_runs : (h : HeapState) (t : ℕ) (step : Step) → begins_load step ≡ true
     → OnAccepted (λ (u : Unit {0}). IsRunning h t) (thread_gate h t step)
 unfolding thread_gate
@@ -238,7 +238,7 @@ begins h g t k r o = subst (λ (x : HeapState). IsLoading x t) (sym o.is) (recor
     by_place u e (inl i) = i
     by_place u e (inr d) = k.runs.alone u (sym (ap runs_in (other u d)) ∙ e)
 
--- ---- a load goes on
+-- ---- a load continues
 
 -- a trap or a heal
 goes_on : (h g : HeapState) (t : ℕ) → AllStay h g → HasBarrier h t g → IsLoading h t → IsLoading g t
@@ -305,7 +305,7 @@ ends h g t a ok k = record {
     by_place u (inr d) = is_false (is_loading_in (slice_get g.threads u)) (λ e.
         true≢false (sym ((stay.each u).loading e) ∙ k.others u d))
 
--- ---- no trap is refused
+-- ---- no trap is rejected
 
 is_missing : (ts : List ThreadState) (t : ℕ) → is_loading_in (slice_get ts t) ≡ true → nat_le (length ts) t ≡ false
 is_missing ts t e = is_false (nat_le (length ts) t) (λ f.
@@ -371,7 +371,7 @@ never_refused h t e k is = by_tests (nat_le (length h.threads) t) (is_missing h.
     by_tests false i false j true (Some c) m is = by_due c (gc_trap_due h t c.now) is
     by_tests false i false j false (Some c) m is = by_due c (gc_trap_due h t c.now) is
 
--- ---- whole loads
+-- ---- complete loads
 
 accepted_step : (actor : Actor) (step : Step) (a : Answer) (h g : HeapState) → Steps actor step a h g
     → outcome h actor step ≡ Ok (g, a)

@@ -35,7 +35,7 @@ use Rattle.collecting.specs.Rooms.{MakingStands}
 use Rattle.portions.specs.Others.{KeepsOthers, SameOthers}
 use Rattle.portions.specs.Portions.{GoesOn, MutatorState}
 
--- ---- a step of thread t leaves the others of the plain heap
+-- ---- a step of thread t leaves the others of the reference model
 
 other_found : (ts : List PlainThread) (t u : ℕ) (o : Option PlainThread) (f : PlainThread → PlainThread) → u ≢ t
     → slice_get (change_found ts t o f) u ≡ slice_get ts u
@@ -98,7 +98,7 @@ barrier_leaves : (t : ℕ) (actor : Actor) (step : Step) → IsInBarrier t actor
 barrier_leaves t (Thread u) step k = owned_leaves t u step k.0
 barrier_leaves t (Worker w) step k = absurd k
 
--- ---- heaps, one behind the other
+-- ---- heaps, one after the other
 
 pub kept_none : (t : ℕ) (h : HeapState) → KeepsOthers t h h
 kept_none t h = record { kept = λ p p0 k. (p, p0, k, λ u n. refl) }
@@ -120,7 +120,7 @@ unseen_kept t h g s = record { kept = λ p p0 k. let y = s.same p p0 k in (p, y.
 pub stands_kept : (t : ℕ) (h g : HeapState) → StandsForSame h g → KeepsOthers t h g
 stands_kept t h g s = record { kept = λ p p0 k. (p, p0, s.same p p0 k, λ u n. refl) }
 
--- ---- steps, one behind the other
+-- ---- steps, one after the other
 
 entries_leave : (P : Actor → Step → Type 0) (t : ℕ) → ((a : Actor) (s : Step) → P a s → LeavesOthers t a s)
     → (ls : List Layout) (r : Replayed) (es : List Entry) → EachIs P es
@@ -239,9 +239,9 @@ making_with_kept t n percent target layout sources nums h g r k = by_test (fill_
     by_test (Ok u) y = by_result r y
     by_test (Err e) y = kept_same t h g y.1
 
--- ---- steps that the plain heap doesn't see
+-- ---- steps that don't change the reference model
 
--- a call for a thread's step of which the plain heap knows nothing
+-- a call for a thread's step that doesn't change the reference model
 pub does_unseen : {A : Type 0} (answer : A → Answer) (h g : HeapState) (t : ℕ) (step : Step) (r : Result A Refusal)
     → ((ls : List Layout) (p : PlainHeap) → plain_step ls p (Thread t) step ≡ p)
     → DoesThread answer h t step r g → ThreadStands answer h t step r g → StandsUnseen h g
@@ -285,13 +285,13 @@ scrubs_unseen h g k = same_unseen h g (quiet_goes IsScrub scrub_quiet h g k)
 
 -- ---- portions
 
--- a portion of thread t goes on
+-- a portion of thread t that continues
 pub goes_on : (t : ℕ) (h g : HeapState) (m : MutatorState) → record { thread = t; heap = h } ≡ m → KeepsOthers t h g
     → GoesOn m (record { thread = t; heap = g })
 goes_on t h g m e k = subst (λ (n : MutatorState). GoesOn n (record { thread = t; heap = g })) e
     (record { thread = refl; others = k })
 
--- a portion that goes on, and then goes on
+-- a portion that continues, and then continues
 pub goes_on_then : (a b c : MutatorState) → GoesOn a b → GoesOn b c → GoesOn a c
 goes_on_then a b c x y = record {
   thread = y.thread ∙ x.thread;

@@ -93,7 +93,7 @@ unfolding outcome unpark_outcome
 unpark_turns h t = on_bind (thread_gate h t steps.Unpark) _ _ (λ u f.
     on_truth (is_parked_in (slice_get h.threads t)) _ _ _ (λ e. turned h t false))
 
--- ---- why it is refused
+-- ---- why it is rejected
 
 past : (h : HeapState) (t : ℕ) → nat_le (length h.threads) t ≡ true → slice_get h.threads t ≡ None
 past h t e = slice_get_past h.threads t (leb-true (length h.threads) t e)

@@ -111,7 +111,7 @@ cross_row h t = on_bind (may_cross h t) _ _ (λ u f.
     all_then h (with_marked_registers h t (marked_at_crossing h)) _ (registers_stay h t (marked_at_crossing h))
     (crossed_stays (with_marked_registers h t (marked_at_crossing h)) t))
 
--- ---- rows of threads
+-- ---- steps of threads
 
 module _ (h : HeapState) (t : ℕ) where
   take_row : (n : ℕ) → Keep h (take_outcome h t n)
@@ -274,7 +274,7 @@ module _ (h : HeapState) (t : ℕ) where
   thread_rows steps.Unpark e = absurd (cc)
   thread_rows _ e = tt
 
--- ---- rows of workers
+-- ---- steps of workers
 
 targets_same : (k : ℕ) (h : HeapState) → SameThreads h (with_targets k h).0
 unfolding with_target

@@ -9,7 +9,7 @@ abbrev pub runs_in : Option ThreadState → Bool
 runs_in None = false
 runs_in (Some t) = not t.parked
 
--- no thread is inside a load, only thread t may run, and there is a worker to collect
+-- no thread is inside a load, only thread t may run, and there is a worker that can collect
 pub record RunsAlone (h : HeapState) (t : ℕ) : Type 0 where
   pub closed : (u : ℕ) → is_loading_in (slice_get h.threads u) ≡ false
   pub alone : (u : ℕ) → runs_in (slice_get h.threads u) ≡ true → u ≡ t
@@ -27,7 +27,7 @@ pub record IsStill (h : HeapState) : Type 0 where
   pub parked : (u : ℕ) → runs_in (slice_get h.threads u) ≡ false
   pub workers : 0 < h.config.workers
 
--- a thread is parked, and outside of a load, or it isn't there
+-- a thread is parked, and outside of a load, or it doesn't exist
 pub record IsStillAt (h : HeapState) (u : ℕ) : Type 0 where
   pub closed : is_loading_in (slice_get h.threads u) ≡ false
   pub parked : runs_in (slice_get h.threads u) ≡ false

@@ -40,13 +40,13 @@ pub trait MutatorCalls {
     /// Writes a data word of an object, as `Mutating::set_datum`.
     fn set_datum(&mut self, object: u32, index: u32, value: u64) -> Result<(), Refusal>;
 
-    /// Returns whether two registers name the same object, or both none, as `Mutating::same`.
+    /// Returns whether two registers refer to the same object, or are both null, as `Mutating::same`.
     fn same(&self, left: u32, right: u32) -> Result<bool, Refusal>;
 
     /// Returns whether a register is null, as `Mutating::is_null`.
     fn is_null(&self, register: u32) -> Result<bool, Refusal>;
 
-    /// Copies a register to another one, as `Mutating::copy_register`.
+    /// Copies a register's reference to another register, as `Mutating::copy_register`.
     fn copy_register(&mut self, target: u32, source: u32) -> Result<(), Refusal>;
 
     /// Makes a register null, as `Mutating::clear_register`.

@@ -116,7 +116,7 @@ impl Mutator {
         View::of(&self.heap)
     }
 
-    /// Proves what holds in a portion. It changes nothing and never fails.
+    /// Proves the conditions of a portion. It changes nothing and can't fail.
     pub fn law(&self)
         ensures { HoldsInPortion self.now }
     {

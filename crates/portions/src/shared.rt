@@ -14,7 +14,7 @@ use std::sync::atomic::{AtomicBool, AtomicU64, Ordering};
 use std::sync::{RwLock, RwLockReadGuard, RwLockWriteGuard, Wait};
 use std::thread;
 
-/// How often a thread that hands the heap on yields, at most, until another one has it.
+/// How often a thread that ends its portion yields, at most, until another thread has the heap.
 const MOST_YIELDS: u32 = 1000;
 
 /// A heap that system threads share: one of them has it at a time, for a portion of many steps.

@@ -62,7 +62,7 @@ numbered s page h e = by_page (page_at s page) refl e
         let low = slice_get_within s.pages (page - 1) p at in
         (omega (arith, one), omega (arith, one, low, records_within s h))
 
--- so has a From page
+-- a From page has a number
 from_numbered : (s : StoreState) (page : ℕ) → IsStore s → is_from (state_at s page) ≡ true
     → (0 < page) × (page ≤ s.count)
 from_numbered s page h e =

@@ -62,7 +62,7 @@ one_more words i old new x left blank is = (
   subst (λ xs. Each xs (IsBlank words)) (sym is) (each_behind (IsBlank words) old x left.1 blank),
 )
 
--- i of k targets were opened, on these pages: opening the others makes what opening all makes
+-- i of k targets have been opened, on these pages: opening the others has the result of opening all
 pub record HasOpened (h g : HeapState) (k i : ℕ) (ns : List ℕ) : Type 0 where
   pub heap : (with_targets (k - i) g).0 ≡ (with_targets k h).0
   pub pages : ns ++ (with_targets (k - i) g).1 ≡ (with_targets k h).1

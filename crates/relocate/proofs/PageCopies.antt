@@ -77,7 +77,7 @@ copied_one h n e m = by_tests (is_idle h.phase) (crossed_if_protecting h) (is_fr
     by_tests false (Err k) b x y z = absurd (cc)
     by_tests false (Ok tt) false x y z = absurd (cc)
 
--- copying an entry keeps that the page's objects may be copied
+-- after an entry is copied, the page's objects may still be copied
 still : (h : HeapState) (n : ℕ) (o : Option Forwarding) → MayCopy h n → MayCopy (with_entry h n o) n
 unfolding with_copy with_copied_words with_words state_at page_at crossed_if_protecting all_crossed
 still h n None m = m

@@ -50,7 +50,7 @@ each_closed : (s : StoreState) (ns : List ℕ) (i : ℕ) → length ns ≤ i
     → Each (take i ns) (λ n. state_at s n ≡ Closed) → Each ns (λ n. state_at s n ≡ Closed)
 each_closed s ns i l h = subst (λ ms. Each ms (λ n. state_at s n ≡ Closed)) (all_taken ns i l) h
 
--- and all have numbers
+-- after the last page all have numbers
 pub each_low : (s : StoreState) (ns : List ℕ) (i : ℕ) → IsStore s → length ns ≤ i
     → Each (take i ns) (λ n. state_at s n ≡ Closed) → Each ns (λ n. 0 < n)
 each_low s ns i is l h = λ j n at. (closed_numbered s n is (each_closed s ns i l h j n at)).0

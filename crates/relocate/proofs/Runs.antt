@@ -57,7 +57,7 @@ run_begins h n e end target a here = record {
       (sym (ap (slice_get (of_page h.sides n)) same) ∙ at);
 }
 
--- and another one joins it
+-- one more entry joins a run
 pub run_more : (h : HeapState) (n e end target count : ℕ) → IsRun h n e end target count → count < end - e
     → goes_to h.store.words (slice_get (of_page h.sides n) (e + count)) ≡ Some target
     → IsRun h n e end target (count + 1)

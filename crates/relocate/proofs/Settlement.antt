@@ -103,7 +103,7 @@ place_goes w count ts p there few low =
     subst (λ m. address_in w ts p < m) (mul_comm w (count + 1))
     (mul-add-lt (get_or ts p.0 0) w p.1 (count + 1) (omega (arith, is, few p.0 n e)) low)
 
--- so are the places of entries
+-- the places of entries are on pages that have numbers
 all_go : (w count : ℕ) (ts : List ℕ) (ps : List (ℕ × ℕ)) (fs : List Forwarding) → length fs ≤ length ps
     → Each ts (λ n. n ≤ count) → Each ps (λ p. p.0 < length ts) → Each ps (λ p. p.1 < w)
     → Each (with_places w ts ps fs) (λ f. f.to < (count + 1) * w)

@@ -80,8 +80,8 @@ fn protect_prepared(heap: &mut Heap, pages: &[u32], prepared: Preparation, memor
 /// the numbers of objects and of targets. Pages count from 1, workers from 0.
 ///
 /// Fails with `Phase` while a mark runs or pages are protected; `Lent` or `Unripe` for the first page that is open
-/// with a buffer lent, or else not closed; `NoFrames`, with both numbers, if fewer frames are free than there are
-/// targets; `NoPages` if fewer pages are unused; `Memory` if out of memory. The heap is then unchanged.
+/// with a thread's buffer on it, or else not closed; `NoFrames`, with both numbers, if fewer frames are free than
+/// there are targets; `NoPages` if fewer pages are unused; `Memory` if out of memory. The heap is then unchanged.
 #[tactic(auto, unfolding(model::specs::Protections::protect_outcome))]
 pub fn protect(heap: &mut Heap, worker: u32, pages: &[u32]) -> Reply
     requires { WorkerPasses heap.old worker (steps.Protect pages.now) }

@@ -9,7 +9,7 @@ use std::process::ExitCode;
 use std::rt::Files;
 use std::{env, fs, io};
 
-/// The words of the command line, without the program's name.
+/// Returns the words of the command line, without the program's name.
 fn words(rt: &HostRuntime) -> Result<Vec<String>, AskFault> {
     let mut words = Vec::new(rt.alloc());
     let all = env::args(rt).map_err(|error| AskFault::of_words(&error))?;
@@ -19,7 +19,7 @@ fn words(rt: &HostRuntime) -> Result<Vec<String>, AskFault> {
     Ok(words)
 }
 
-/// What the words ask for, and the file that they name, or the exit status where these can't be had.
+/// Returns what the words request and the open file, or the exit status of an error.
 fn opened<E: io::Write>(rt: &HostRuntime, errors: &mut E) -> Result<(Asked, fs::File), u8>
     ensures { IfErr result IsStatus }
 {
@@ -33,7 +33,7 @@ fn opened<E: io::Write>(rt: &HostRuntime, errors: &mut E) -> Result<(Asked, fs::
     }
 }
 
-/// What the words of the command line ask for.
+/// Returns what the words of the command line request.
 fn asked(rt: &HostRuntime) -> Result<Asked, AskFault> {
     let words = words(rt)?;
     ask(rt.alloc(), &words)
@@ -45,7 +45,7 @@ fn main(rt: HostRuntime) -> ExitCode {
         Ok(found) => found,
         Err(status) => return ExitCode::from(status),
     };
-    // That a buffer can't be made is want of memory alone.
+    // A buffer can't be made only if out of memory.
     let Ok(mut output) = io::BufWriter::new(rt.alloc(), io::writer(&rt)) else {
         return ExitCode::from(AskFault::Memory.tell(&mut errors));
     };

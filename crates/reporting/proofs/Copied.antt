@@ -1,4 +1,4 @@
--- Entries of side arrays that are copied.
+-- Copied entries of forwarding tables.
 use Rattle.std.proofs.Common.{◌≡◌, ℕ, ◌+◌, List, [], ◌∷◌, length, count_by, Bool, true, false, not, cond, refl, arith}
 use Rattle.std.proofs.lemmas.List.Sums.{sum_by-cons}
 use Rattle.model.specs.declared.records.Forwarding.{Forwarding}
@@ -11,7 +11,7 @@ one_of : (b : Bool) → as_number b + as_number (not b) ≡ 1
 one_of true = refl
 one_of false = refl
 
--- an entry is copied, or has still to be
+-- an entry is copied or uncopied
 pub copied_rest : (side : List Forwarding) → count_by (λ f. f.copied) side + count_by is_uncopied side ≡ length side
 copied_rest [] = refl
 copied_rest (f ∷ fs) = omega (

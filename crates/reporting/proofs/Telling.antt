@@ -1,4 +1,4 @@
--- Texts that are written one after another.
+-- Texts written one after another.
 use Rattle.std.proofs.Common.{◌≡◌, ℕ, ◌+◌, ◌<◌, ◌≤◌, List, [], ◌∷◌, ◌++◌, length, drop, get_or}
 use Rattle.std.proofs.Common.{slice_get, Option, Some, None, IfSome}
 use Rattle.std.specs.Prelude.{Result, Ok, Err, OnOk}
@@ -17,7 +17,7 @@ use Rattle.reporting.specs.Reports.{cycles_from, cycle_line, next_cycle}
 split : {X : Type 0} (xs : List X) (i : ℕ) (d : X) → i < length xs → drop i xs ≡ get_or xs i d ∷ drop (i + 1) xs
 split xs i d h = rw (add-one, drop-cons xs i d) refl
 
--- the first of the texts that are left
+-- the first of the remaining texts
 pub texts_next : {X : Type 0} (f : ℕ → X → List ℕ) (i : ℕ) (xs : List X) (d : X) → i < length xs
     → texts_from f i (drop i xs) ≡ f i (get_or xs i d) ++ texts_from f (i + 1) (drop (i + 1) xs)
 unfolding texts_from
@@ -64,7 +64,7 @@ pub cycles_told : (k i : ℕ) (es : List Entry) (old c : Option (List ℕ)) (all
 cycles_told k i es old c all h le =
     let there : Leads old c [] all = rw (← cycles_end k i es le) h in leads_end old c all there
 
--- the same of an element that was read
+-- the same for an element that was read
 pub told_item :
     {X : Type 0} (f : ℕ → X → List ℕ) (i : ℕ) (xs : List X) (x : X) (old c new : Option (List ℕ)) (all : List ℕ)
     → Leads old c (texts_from f i (drop i xs)) all → i < length xs → x ≡ get_or xs i x → Appends c new (f i x)
@@ -72,7 +72,7 @@ pub told_item :
 told_item f i xs x old c new all h le e a =
     told_next f i xs x old c new all h le (subst (λ y. Appends c new (f i y)) e a)
 
--- the same of an answer that was read
+-- the same for an answer that was read
 pub cycle_item : (k n i : ℕ) (es : List Entry) (a : Answer) (old c new : Option (List ℕ)) (all : List ℕ)
     → Leads old c (cycles_from k (drop i es)) all
     → i < length es → IfSome (slice_get es i) (λ e. a ≡ e.answer) → Appends c new (cycle_line k a)
@@ -96,7 +96,7 @@ appends_more (Some x) None c xs ys h k = absurd h
 appends_more (Some x) (Some y) None xs ys h k = k
 appends_more (Some x) (Some y) (Some z) xs ys h k = k ∙ ap (λ zs. zs ++ ys) h ∙ append_assoc x xs ys
 
--- what holds behind an accepted call
+-- a consequence of what a result has if it isn't an error
 pub on_ok : {X E : Type 0} (r : Result X E) (P Q : Type 0) → OnOk r P → (P → Q) → OnOk r Q
 on_ok (Ok x) P Q h k = k h
 on_ok (Err e) P Q h k = search rules

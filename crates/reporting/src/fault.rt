@@ -6,10 +6,10 @@ ghost use Rattle.reporting.specs.declared.fault.ReportFault.TheVariants.{Memory}
 use std::alloc::AllocError;
 use thiserror::Error;
 
-/// Why a report ends before its end. What was written before stays written.
+/// Why a report isn't complete. What was written before stays written.
 #[derive(Clone, Copy, Debug, PartialEq, Eq, Error)]
 pub enum ReportFault {
-    /// Memory was refused.
+    /// Out of memory.
     #[error("out of memory")]
     Memory,
     /// The writer failed.

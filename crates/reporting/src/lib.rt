@@ -1,4 +1,4 @@
-//! Reports: a heap as it stands, in lines of text, and what each mark of a history has found (ours).
+//! Reports: the current state of a heap in lines of text, and what each mark of a history has found.
 //!
 //! `docs/SCRIPT.md` describes the lines, under 'The report'.
 #![tactic(auto)]

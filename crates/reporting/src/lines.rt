@@ -23,7 +23,7 @@ use wording::{
     ThreadLine, WordText,
 };
 
-/// Writes a text. The fault is a writer that failed.
+/// Writes a text. Fails with `Write` if the writer fails.
 pub fn tell<W: io::Write>(w: &mut W, text: &String) -> Result<(), ReportFault>
     ensures written { OnOk result (Appends (W.contents w.old) (W.contents w.new) (string_bytes text.now)) }
     ensures faults { IfErr result (λ fault. fault ≡ Write) }
@@ -34,7 +34,7 @@ pub fn tell<W: io::Write>(w: &mut W, text: &String) -> Result<(), ReportFault>
     }
 }
 
-/// Puts a line and its newline at the end of a text.
+/// Appends a line and its newline to a text. Fails only if out of memory.
 fn put_line<D: Display>(line: &D, text: &mut String) -> Result<(), AllocError>
     ensures { OnOk result (IfSome (D.output line.now) (λ bytes. string_bytes text.new
         ≡ string_bytes text.old ++ bytes ++ 10 ∷ [])) }
@@ -65,14 +65,14 @@ fn bits_in(rows: &Rows, index: usize) -> usize
     }
 }
 
-/// How many entries of a side array are copied.
+/// Returns how many entries of a forwarding table are copied.
 fn copied_in(side: &Side) -> usize
     ensures { result ≡ copied_in side.now }
 {
     side.len() - side.uncopied() as usize
 }
 
-/// The copies of the side array of an index; none where there is no such side array.
+/// Returns the copies of the forwarding table of an index; none if there is no such table.
 fn copies_in(sides: &Sides, index: usize) -> Copies
     ensures { result ≡ copies_in sides.now index }
 {
@@ -88,7 +88,7 @@ fn copies_in(sides: &Sides, index: usize) -> Copies
     }
 }
 
-/// The copies of the page whose record has an index, if it is protected.
+/// Returns the copies of the page whose record has an index, if it is protected.
 fn copies_of(sides: &Sides, index: usize, page: Page) -> Option<Copies>
     ensures { result ≡ copies_of sides.now index page }
 {
@@ -128,7 +128,7 @@ pub(crate) fn tell_head<W: io::Write>(
     tell_line(&line, text, w)
 }
 
-/// Writes the line of the page of an index; nothing where it is unused.
+/// Writes the line of the page of an index; nothing if it is unused.
 #[tactic(auto, unfolding(crate::specs::Reports::page_line), using(crate::proofs::Telling::appends_nothing))]
 fn tell_page<W: io::Write>(
     heap: &Heap,
@@ -269,7 +269,7 @@ fn tell_cycle<W: io::Write>(
     }
 }
 
-/// The number of the next mark to end.
+/// Returns the number of the next mark to end.
 fn next_cycle(number: u64, answer: Answer) -> u64
     requires { number + 1 < 2 ^ 64 }
     ensures value { result ≡ next_cycle number answer }
@@ -281,7 +281,7 @@ fn next_cycle(number: u64, answer: Answer) -> u64
     }
 }
 
-/// The answer of the entry of a number, from 0.
+/// Returns the answer of an entry, by its number from 0, which must exist.
 fn answer_at(history: &History, index: usize) -> Answer
     requires { index < length history.now.entries }
     ensures { IfSome (slice_get history.now.entries index) (λ e. result ≡ e.answer) }

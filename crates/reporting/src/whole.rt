@@ -1,4 +1,4 @@
-//! Whole reports.
+//! Complete reports.
 
 ghost use Rattle.std.specs.Prelude.{OnOk};
 ghost use Rattle.std.specs.Io.KnownBytes.{Appends};
@@ -22,9 +22,9 @@ fn tell_state<W: io::Write>(heap: &Heap, text: &mut String, w: &mut W) -> Result
     tell_globals(heap, text, w)
 }
 
-/// Writes the report: the collector's state, the pages in use, the threads and the globals, for each
-/// mark that ended in the history what it found, and for each thread what its loads have come to. The
-/// faults are want of memory, and a writer that failed.
+/// Writes the report: the collector's state, the pages in use, the threads and the globals, what each mark that ended
+/// in the history has found, and each thread's barrier counters. Fails with `Memory` if out of memory, and with
+/// `Write` if the writer fails.
 #[tactic(auto, unfolding(crate::specs::Reports::report_text))]
 pub fn report<W: io::Write>(
     alloc: Global,
@@ -40,8 +40,8 @@ pub fn report<W: io::Write>(
     tell_barriers(heap, &mut text, w)
 }
 
-/// Writes the report of a heap that has no history, as of one that a program holds: all that `report`
-/// writes but what marks have found. The faults are want of memory, and a writer that failed.
+/// Writes the report of a heap that has no history, as a program's: all that `report` writes except what marks have
+/// found. Fails with `Memory` if out of memory, and with `Write` if the writer fails.
 #[tactic(auto, unfolding(crate::specs::Reports::report_text, crate::specs::Reports::cycles_from))]
 pub fn report_heap<W: io::Write>(alloc: Global, heap: &Heap, w: &mut W) -> Result<(), ReportFault>
     ensures { OnOk result (Appends (W.contents w.old) (W.contents w.new) (heap_text heap.now)) }

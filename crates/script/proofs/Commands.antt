@@ -1,4 +1,4 @@
--- What the steps of a command leave.
+-- The results of a command's steps.
 use Rattle.std.proofs.Common.{◌≡◌, List, [], ap, sym}
 use Rattle.cycle.specs.Books.{BookState, Reply}
 use Rattle.cycle.specs.Loads.{Told, tell, behind}

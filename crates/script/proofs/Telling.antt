@@ -1,4 +1,4 @@
--- Texts that are written one after another.
+-- Texts written one after another.
 use Rattle.std.proofs.Common.{◌≡◌, ℕ, ◌+◌, ◌<◌, ◌≤◌, List, [], ◌∷◌, ◌++◌, length, drop, get_or}
 use Rattle.std.proofs.Common.{slice_get, Option, Some, None, IfSome}
 use Rattle.std.proofs.Common.{refl, ap, sym, subst, ◌∙◌, add-one, drop-cons, append_assoc, append-nil, not-suc-le-zero}
@@ -34,7 +34,7 @@ line_told n i b e cs d replies old c new all h le r k a =
     rw (r, k, ← lines_next n i b cs d le) h in
     leads_step old c new _ _ all there a
 
--- the same of the command that a loop lends
+-- the same for the command that a loop borrows
 pub line_item : (n i : ℕ) (b e : BookState) (cs : List Command) (d : Command) (replies : List Reply)
     (old c new : Option (List ℕ)) (all : List ℕ) → Leads old c (lines_text n b (drop i cs)) all → i < length cs
     → d ≡ get_or cs i d → replies ≡ (done b d).replies → e ≡ (done b d).book → Appends c new (command_line n d replies)

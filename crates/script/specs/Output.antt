@@ -1,4 +1,4 @@
--- What a run of a script prints.
+-- The text that a run of a script prints.
 use Rattle.std.specs.Prelude.{ℕ, ◌+◌, List, [], ◌∷◌, ◌++◌, length, Result, Ok, Err}
 use Rattle.model.specs.declared.steps.Actor.{Actor}
 use Rattle.model.specs.declared.steps.Actor.TheVariants.{Thread, Worker}
@@ -18,12 +18,12 @@ use Rattle.wording.specs.Texts.{line_text, drained_line}
 
 -- the commands
 
--- a drain of a worker; a thread drains nothing, and its step is refused
+-- a drain of a worker; a thread drains nothing, and its step is rejected
 abbrev pub drain_by : BookState → Actor → Step → Told
 drain_by b (Worker w) step = drain b w
 drain_by b (Thread t) step = one_step b (Thread t) step
 
--- what a command does to a book, by what follows its step
+-- the effect of a command on a recorded heap, by what follows its step
 abbrev pub done_with : BookState → Command → Then → Told
 done_with b c thens.Nothing = one_step b c.actor (step_of c.order)
 done_with b c thens.LoadsEnd = whole_load b c.actor (step_of c.order)
@@ -31,17 +31,18 @@ done_with b c thens.Drains = drain_by b c.actor (step_of c.order)
 done_with b c thens.Cycles = one_step b c.actor (step_of c.order)
 done_with b c thens.Rolls = one_step b c.actor (step_of c.order)
 
--- what a command does to a book, and what its steps say: one step, or those of a whole load or a drain
+-- the effect of a command on a recorded heap, and its steps' replies: one step, or those of a complete load or a
+-- drain
 unfoldable pub done : BookState → Command → Told
 done b c = done_with b c (then_of c.order)
 
--- the line of command n, a drain that came to this end with so many replies
+-- the line of command n, a drain that ended with this result and number of replies
 abbrev pub drain_line : ℕ → Actor → ℕ → Result Unit Refusal → List ℕ
 drain_line n actor count (Ok u) = drained_line n actor count
 drain_line n actor count (Err e) = line_text n actor (Err e ∷ [])
 
--- the line of command n, by what follows its step: all that its steps said; but of a drain how many were done, or the
--- refusal that ended it
+-- the line of command n, by what follows its step: the replies to all its steps; but for a drain how many were done,
+-- or the error that ended it
 abbrev pub line_with : ℕ → Actor → Then → List Reply → List ℕ
 line_with n actor thens.Nothing replies = line_text n actor replies
 line_with n actor thens.LoadsEnd replies = line_text n actor replies
@@ -49,7 +50,7 @@ line_with n actor thens.Drains replies = drain_line n actor (length replies) (ve
 line_with n actor thens.Cycles replies = line_text n actor replies
 line_with n actor thens.Rolls replies = line_text n actor replies
 
--- the line of command n, of whose steps these are the replies
+-- the line of command n, with the replies to its steps
 abbrev pub command_line : ℕ → Command → List Reply → List ℕ
 command_line n c replies = line_with n c.actor (then_of c.order) replies
 
@@ -58,19 +59,19 @@ unfoldable pub lines_text : ℕ → BookState → List Command → List ℕ
 lines_text n b [] = []
 lines_text n b (c ∷ cs) = command_line n c (done b c).replies ++ lines_text (n + 1) (done b c).book cs
 
--- the book that commands leave
+-- the recorded heap after commands
 unfoldable pub book_after : BookState → List Command → BookState
 book_after b [] = b
 book_after b (c ∷ cs) = book_after (done b c).book cs
 
--- the report of a book
+-- the report of a recorded heap
 abbrev pub report_of : BookState → List ℕ
 report_of b = report_text b.heap b.history
 
--- the lines of commands on a book, then the report
+-- the lines of commands on a recorded heap, then the report
 abbrev pub told_text : BookState → List Command → List ℕ
 told_text b commands = lines_text 1 b commands ++ report_of (book_after b commands)
 
--- the lines of a script's commands on a new book, then the report
+-- the lines of a script's commands on a new recorded heap, then the report
 unfoldable pub output_text : ScriptValue → List ℕ
 output_text s = told_text (first_book s.config) s.commands

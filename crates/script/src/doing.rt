@@ -12,7 +12,7 @@ use model::{Actor, Answer, Refusal};
 use parser::{Command, Then};
 use std::alloc::Global;
 
-/// A command that is one step.
+/// Does a command that is one step. Fails with `Memory` if out of memory, also in the step.
 fn do_step(
     alloc: Global,
     book: &mut Book,
@@ -28,7 +28,7 @@ fn do_step(
     Ok(())
 }
 
-/// A command that is a whole load.
+/// Does a command that is a complete load. Fails with `Memory` if out of memory, also in a step.
 fn do_load(
     alloc: Global,
     book: &mut Book,
@@ -46,7 +46,7 @@ fn do_load(
     }
 }
 
-/// A command that is a drain of a worker.
+/// Does a command that is a drain of a worker. Fails with `Memory` if out of memory, also in a step.
 fn do_drain(
     book: &mut Book,
     worker: u32,
@@ -60,9 +60,9 @@ fn do_drain(
     Ok(())
 }
 
-/// Does a command: one step, or the steps of a load or a drain up to its end or its first refusal.
-/// `replies` is room that is used again: what it holds is lost, and then it holds what the steps
-/// said, in order. The fault is want of memory, also in a step.
+/// Does a command: one step, or the steps of a load or a drain up to its end or its first error. `replies` is a list
+/// that is reused: its contents are replaced by the replies to the steps, in order. Fails with `Memory` if out of
+/// memory, also in a step.
 #[tactic(auto, unfolding(crate::specs::Output::done), using(crate::proofs::Commands::same_book, crate::proofs::Commands::same_replies))]
 pub fn do_command(
     alloc: Global,

@@ -1,4 +1,4 @@
-//! Why a run ends before its end.
+//! Errors of runs.
 
 ghost use Rattle.std.specs.Prelude.{◌≡◌, false};
 ghost use Rattle.script.specs.Faults.{is_line};
@@ -9,10 +9,10 @@ use reporting::ReportFault;
 use std::alloc::{AllocError, AllocFailed};
 use thiserror::Error;
 
-/// Why a run ends before its end. What was written before stays written.
+/// Why a run ends early. What was written before stays written.
 #[derive(Clone, Copy, Debug, PartialEq, Eq, Error)]
 pub enum RunFault {
-    /// Memory was refused.
+    /// Out of memory.
     #[error("out of memory")]
     Memory,
     /// The writer failed.
@@ -49,7 +49,7 @@ impl From<ReportFault> for RunFault {
 }
 
 impl RunFault {
-    /// The same fault, but no fault of a line: that is looked for before a run.
+    /// Returns the same error, but never that of a line, which is tested before a run.
     pub fn of_run(self) -> RunFault
         ensures { is_line result ≡ false }
     {

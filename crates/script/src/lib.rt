@@ -1,4 +1,4 @@
-//! Runs of scripts, and what they print.
+//! Runs of scripts, and the text that they print.
 #![tactic(auto)]
 
 mod doing;

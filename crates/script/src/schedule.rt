@@ -1,4 +1,4 @@
-//! Commands one by one.
+//! Runs of a script on one thread.
 
 ghost use Rattle.std.specs.Prelude.{◌≡◌, ◌++◌, true, length, string_bytes, IfOk, IfErr, OnOk};
 ghost use Rattle.std.specs.Io.KnownBytes.{Appends};
@@ -20,7 +20,7 @@ use std::alloc::{AllocError, Global};
 use std::io;
 use wording::{put_drained, put_line};
 
-/// Adds the line of a drain to a text: how many steps were done, or the refusal that ended it.
+/// Appends the line of a drain to a text: how many steps were done, or the error that ended it.
 fn put_drain(
     text: &mut String,
     number: u64,
@@ -36,7 +36,7 @@ fn put_drain(
     }
 }
 
-/// Adds the line of a command to a text.
+/// Appends the line of a command to a text.
 fn put_command(
     text: &mut String,
     number: u64,
@@ -54,8 +54,8 @@ fn put_command(
     }
 }
 
-/// Writes the line of a command, by way of a text, which is lost: its number, its actor, and what its
-/// steps said. The faults are want of memory, and a writer that failed.
+/// Writes the line of a command, by way of a text, whose contents are lost: its number, its actor, and the replies to
+/// its steps. Fails with `Memory` if out of memory, and with `Write` if the writer fails.
 pub fn tell_command<W: io::Write>(
     number: u64,
     command: &Command,
@@ -71,7 +71,7 @@ pub fn tell_command<W: io::Write>(
     tell(w, text)
 }
 
-/// Does the commands in order, and writes a line for each. Room for lines and replies is used again.
+/// Does the commands in order, and writes a line for each. The memory for lines and replies is reused.
 fn tell_commands<W: io::Write>(
     alloc: Global,
     book: &mut Book,
@@ -92,7 +92,7 @@ fn tell_commands<W: io::Write>(
     Ok(())
 }
 
-/// Does commands on a book, writes the line of each, and then the report.
+/// Does commands on a recorded heap, writes the line of each, and then the report.
 fn tell_all<W: io::Write>(
     alloc: Global,
     book: &mut Book,
@@ -105,7 +105,7 @@ fn tell_all<W: io::Write>(
     report(alloc, book.heap(), book.history(), w)
 }
 
-/// A new book of a script's configuration. The fault is want of memory.
+/// Makes a recorded heap of a script's configuration. Fails with `Memory` if out of memory.
 pub fn new_book(alloc: Global, script: &Script) -> Result<Book, RunFault>
     ensures { IfOk result (λ book. book ≡ first_book script.now.config) }
 {
@@ -117,23 +117,23 @@ pub fn new_book(alloc: Global, script: &Script) -> Result<Book, RunFault>
     }
 }
 
-/// What `by_schedule` does, of a script that needs no threads.
+/// Does what `by_schedule` does, for a script that needs no threads.
 #[tactic(auto, unfolding(crate::specs::Output::output_text))]
 fn scheduled<W: io::Write>(alloc: Global, script: &Script, w: &mut W) -> Result<(), RunFault>
     ensures { OnOk result (Appends (W.contents w.old) (W.contents w.new) (output_text (script_alone script.now))) }
 {
     let mut book = new_book(alloc, script)?;
     let told = tell_all(alloc, &mut book, script.commands(), w);
-    // (by a call: what goes out of scope is let go in the steps of this function, which are proved)
+    // (by a call: at the end of a scope values are freed in the steps of this function, which are proved)
     drop(book);
     told
 }
 
 /// Runs a script on a new heap: writes the line of each command, and then the report.
 ///
-/// A step that is refused has its line, and the run goes on. The faults are want of memory, also
-/// in a step, and a writer that failed; and, before any step, the first command that only a run by
-/// threads does.
+/// The line of a rejected step has its error, and the run continues. Fails with `Memory` if out of memory, also in a
+/// step, and with `Write` if the writer fails; and, before any step, with the fault of the first command that only a
+/// run by threads does.
 pub fn by_schedule<W: io::Write>(alloc: Global, script: &Script, w: &mut W) -> Result<(), RunFault>
     ensures ok { OnOk result (Appends (W.contents w.old) (W.contents w.new) (output_text (script_alone script.now))) }
     ensures line { IfErr result (λ fault. is_line fault ≡ true → needs_threads script.now.commands ≡ true) }

@@ -1,4 +1,4 @@
-//! Texts and reports that a run writes, with the faults of runs.
+//! Texts and reports that a run writes, with the errors of runs.
 
 ghost use Rattle.std.specs.Prelude.{OnOk, string_bytes};
 ghost use Rattle.std.specs.Io.KnownBytes.{Appends};
@@ -10,7 +10,7 @@ use heap::Heap;
 use std::alloc::Global;
 use std::io;
 
-/// Writes a text. The fault is a writer that failed.
+/// Writes a text. Fails with `Write` if the writer fails.
 pub fn tell<W: io::Write>(w: &mut W, text: &String) -> Result<(), RunFault>
     ensures { OnOk result (Appends (W.contents w.old) (W.contents w.new) (string_bytes text.now)) }
 {

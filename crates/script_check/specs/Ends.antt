@@ -1,4 +1,4 @@
--- How a run ends in which the heap is verified.
+-- The results of runs in which the heap is verified.
 use Rattle.script_check.specs.declared.schedule.Checked.{Checked}
 use Rattle.script_check.specs.declared.schedule.Checked.TheVariants.{Sound, Faulty}
 

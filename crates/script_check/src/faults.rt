@@ -3,8 +3,8 @@
 use std::fmt::{Display, Formatter, Result, Write};
 use verify::{Fault, Root};
 
-/// The text of a fault, where pages have so many words: `fault`, its kind, and its place. An object
-/// is told by its page, from 1, and its offset.
+/// The text of a fault, on pages of `words` words: `fault`, its kind, and its place. An object is given by its page,
+/// from 1, and its offset.
 #[derive(Clone, Copy, Debug, PartialEq, Eq)]
 pub struct FaultText {
     /// The fault.
@@ -13,7 +13,7 @@ pub struct FaultText {
     pub words: u32,
 }
 
-/// Writes where a root stands: a thread's register, a thread's load, or a global.
+/// Writes the place of a root: a thread's register, a thread's load, or a global.
 fn put_root<W: Write>(f: &mut Formatter<W>, root: Root) -> Result {
     match root {
         Root::Register(thread, register) => write!(f, "fault root t{thread}.r{register}"),

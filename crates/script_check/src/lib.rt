@@ -1,4 +1,4 @@
-//! Runs of scripts in which the heap is verified after every step (ours).
+//! Runs of scripts in which the heap is verified after every step.
 #![tactic(auto)]
 
 mod faults;

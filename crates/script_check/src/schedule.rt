@@ -15,17 +15,17 @@ use std::fmt::Write as _;
 use std::io;
 use verify::Fault;
 
-/// How a run ended in which the heap was verified.
+/// The result of a run in which the heap was verified.
 #[derive(Clone, Copy, Debug, PartialEq, Eq)]
 pub enum Checked {
-    /// All of so many verifications found the heap sound.
+    /// This many verifications were made, and all found the heap sound.
     Sound(u64),
     /// The last one found this fault.
     Faulty(Fault),
 }
 
-/// Does commands in order, and writes a line for each, up to the first in which a verification finds
-/// a fault: that fault.
+/// Does commands in order, and writes a line for each, up to the first in which a verification finds a fault. Returns
+/// that fault.
 fn check_commands<W: io::Write>(
     alloc: Global,
     book: &mut Book,
@@ -48,7 +48,7 @@ fn check_commands<W: io::Write>(
     Ok(None)
 }
 
-/// The first fault, of the heap as it stands, or as it is behind a step of these commands.
+/// Returns the first fault of the heap before these commands or after a step of them.
 fn first_fault<W: io::Write>(
     alloc: Global,
     book: &mut Book,
@@ -64,20 +64,20 @@ fn first_fault<W: io::Write>(
     check_commands(alloc, book, commands, text, w)
 }
 
-/// Puts the line of a fault into a text.
+/// Replaces a text by the line of a fault.
 fn put_fault(text: &mut String, fault: Fault, words: u32) -> Result<(), AllocError> {
     let fault = FaultText { fault, words };
     text.clear();
     writeln!(text, "{fault}")
 }
 
-/// Puts the last line of a run without a fault into a text: how many verifications there were.
+/// Replaces a text by the last line of a run without a fault, with the number of verifications.
 fn put_verified(text: &mut String, count: u64) -> Result<(), AllocError> {
     text.clear();
     writeln!(text, "verified {count}")
 }
 
-/// Tells of a fault that a verification found.
+/// Writes the line of a fault that a verification found.
 fn tell_fault<W: io::Write>(
     book: &Book,
     text: &mut String,
@@ -89,7 +89,7 @@ fn tell_fault<W: io::Write>(
     Ok(Checked::Faulty(fault))
 }
 
-/// Tells of a heap that was found sound each time: the report, and how many verifications there were.
+/// Writes the end of a run whose heap was always sound: the report, and the number of verifications.
 fn tell_sound<W: io::Write>(
     alloc: Global,
     book: &Book,
@@ -105,7 +105,7 @@ fn tell_sound<W: io::Write>(
     Ok(Checked::Sound(count))
 }
 
-/// Does commands in order on a book whose heap is verified each time, and tells how it ended.
+/// Does commands in order on a recorded heap, verifies it after each step, and writes how it ended.
 fn check_book<W: io::Write>(
     alloc: Global,
     book: &mut Book,
@@ -121,24 +121,23 @@ fn check_book<W: io::Write>(
     }
 }
 
-/// What `by_check` does, of a script that needs no threads.
+/// Does what `by_check` does, for a script that needs no threads.
 fn run_checked<W: io::Write>(alloc: Global, script: &Script, w: &mut W) -> Result<Checked, RunFault>
     ensures { IfOk result IsClean }
 {
     let mut book = new_book(alloc, script)?;
     let checked = check_book(alloc, &mut book, script.commands(), w);
-    // (by a call: what goes out of scope is let go in the steps of this function, which are proved)
+    // (by a call: at the end of a scope values are freed in the steps of this function, which are proved)
     drop(book);
     checked
 }
 
-/// Runs a script on a new heap as `by_schedule` does, and verifies the heap before the first command
-/// and after each accepted step, those inside a whole load or a drain too (ours). Behind the report
-/// comes the line `verified n`, with how many verifications there were.
+/// Runs a script on a new heap as `by_schedule` does, and verifies the heap before the first command and after each
+/// accepted step, also those inside a complete load or a drain. The line `verified n` follows the report, with the
+/// number of verifications.
 ///
-/// Where one finds a fault, the command of its step has no line: the fault's line comes, and then
-/// nothing more. No run of this library comes to that. The faults of the run itself are want of
-/// memory and a writer that failed.
+/// If one finds a fault, the command of its step has no line: the fault's line ends the output. No run of this
+/// library has that result. Fails as `by_schedule` does.
 pub fn by_check<W: io::Write>(
     alloc: Global,
     script: &Script,

@@ -1,4 +1,4 @@
-//! Commands, whose steps are done one by one: the heap is verified behind each that is accepted.
+//! Commands whose steps are done one by one: the heap is verified after each accepted one.
 
 ghost use Rattle.std.specs.Prelude.{◌≡◌, ◌++◌, ◌∷◌, [], None, false, IfErr, IfOk, OnOk};
 ghost use Rattle.verify.specs.Faults.{VerdictIs};
@@ -18,10 +18,10 @@ use parser::{Command, Then};
 use std::alloc::{AllocError, Global};
 use verify::{Fault, Verdict, one_verdict};
 
-/// Why the steps of a command stop before their end.
+/// Why the steps of a command stop early.
 #[derive(Clone, Copy, Debug, PartialEq, Eq)]
 pub enum Stop {
-    /// Memory was refused.
+    /// Out of memory.
     Memory,
     /// A verification found this fault.
     Faulty(Fault),
@@ -35,9 +35,8 @@ impl From<AllocError> for Stop {
     }
 }
 
-/// Whether a book's heap is sound as it stands, or else its first fault (ours): the verdict on its
-/// image, which is that it is sound. Its time is linear in the words of all frames and pages. Fails
-/// only by memory.
+/// Returns the verdict on the image of a recorded heap, which is that it is sound. Its time is linear in the words of
+/// all frames and pages. Fails only if out of memory.
 #[tactic(auto, using(crate::proofs::Books::book_sound))]
 pub fn verify_book(alloc: Global, book: &Book) -> Result<Verdict, AllocError>
     ensures verdict { IfOk result (VerdictIs (image_of book.now.heap)) }
@@ -49,7 +48,7 @@ pub fn verify_book(alloc: Global, book: &Book) -> Result<Verdict, AllocError>
     verify(alloc, book.heap())
 }
 
-/// What a verification of the heap as it stands finds: no fault.
+/// Returns the fault that a verification of the current heap finds: none. Fails only if out of memory.
 pub(crate) fn look(alloc: Global, book: &Book) -> Result<Option<Fault>, AllocError>
     ensures { IfOk result (λ fault. fault ≡ None) }
 {
@@ -59,7 +58,7 @@ pub(crate) fn look(alloc: Global, book: &Book) -> Result<Option<Fault>, AllocErr
     }
 }
 
-/// One step, whose reply is put behind others; where it is accepted, the heap is verified behind it.
+/// Does one step, and appends its reply; if it is accepted, verifies the heap after it.
 fn check_step(
     alloc: Global,
     book: &mut Book,
@@ -80,7 +79,7 @@ fn check_step(
     Ok(reply)
 }
 
-/// A command that is one step.
+/// Does a command that is one step.
 fn check_one(
     alloc: Global,
     book: &mut Book,
@@ -97,7 +96,7 @@ fn check_one(
     Ok(())
 }
 
-/// A load ends.
+/// Ends a load.
 fn check_finish(
     alloc: Global,
     book: &mut Book,
@@ -111,7 +110,7 @@ fn check_finish(
     Ok(())
 }
 
-/// The place of a load is healed, where a trap was due, and the load ends.
+/// Heals the place of a load, if a trap was due, and ends the load.
 fn check_heal(
     alloc: Global,
     book: &mut Book,
@@ -133,7 +132,7 @@ fn check_heal(
     }
 }
 
-/// What follows the step that begins a load: traps until one is clear, and the load's end.
+/// Does what follows the step that begins a load: traps until one is clear, and the load's end.
 fn check_traps(
     alloc: Global,
     book: &mut Book,
@@ -159,7 +158,7 @@ fn check_traps(
     check_heal(alloc, book, actor, due, replies)
 }
 
-/// A command that is a whole load.
+/// Does a command that is a complete load.
 fn check_load(
     alloc: Global,
     book: &mut Book,
@@ -178,7 +177,7 @@ fn check_load(
     }
 }
 
-/// At most so many steps of a worker's drain.
+/// Does at most `most` steps of a worker's drain.
 fn check_scans(
     alloc: Global,
     book: &mut Book,
@@ -201,7 +200,7 @@ fn check_scans(
     Ok(())
 }
 
-/// A worker's drain.
+/// Does a worker's drain.
 fn check_drain(
     alloc: Global,
     book: &mut Book,
@@ -217,7 +216,7 @@ fn check_drain(
     check_scans(alloc, book, most, worker, replies)
 }
 
-/// What `check_command` does.
+/// Does what `check_command` does.
 #[tactic(auto, unfolding(script::specs::Output::done), using(script::proofs::Commands::same_book, script::proofs::Commands::same_replies))]
 fn check_steps(
     alloc: Global,
@@ -240,9 +239,9 @@ fn check_steps(
     }
 }
 
-/// Does a command, as a run does it, up to its end, its first refusal, or the first fault that a
-/// verification finds: that fault, if there is one. `replies` is room that is used again: it holds
-/// what the steps said then, which is what they say in a run. The error is want of memory.
+/// Does a command, as a run does, up to its end, its first error, or the first fault that a verification finds.
+/// Returns that fault. `replies` is a list that is reused: its contents are replaced by the replies to the steps,
+/// which are those in a run. Fails only if out of memory.
 pub(crate) fn check_command(
     alloc: Global,
     book: &mut Book,

@@ -1,4 +1,4 @@
-//! The lines of what threads, workers and globals are about.
+//! The lines of the current work of threads, workers and globals.
 
 use crate::pages::{put_address, put_word};
 use heap::{Heap, Thread};
@@ -7,7 +7,7 @@ use std::alloc::AllocError;
 use std::fmt::Write as _;
 use wording::BitText;
 
-/// Puts where a load has its word from.
+/// Appends the place from which a load has its reference.
 fn put_place(heap: &Heap, place: Place, text: &mut String) -> Result<(), AllocError> {
     match place {
         Place::Global(number) => write!(text, " global {number}"),
@@ -19,8 +19,8 @@ fn put_place(heap: &Heap, place: Place, text: &mut String) -> Result<(), AllocEr
     }
 }
 
-/// Puts the line of a load that isn't finished: its thread, the register that it is for, its place, the word
-/// that was loaded, the word so far, and whether the place was healed.
+/// Appends the line of an unfinished load: its thread, its target register, its place, the reference that was loaded,
+/// the current one, and whether the place was healed.
 fn put_load(
     heap: &Heap,
     thread: usize,
@@ -38,7 +38,7 @@ fn put_load(
     writeln!(text, " healed {healed}")
 }
 
-/// Puts whether a thread has crossed, and its load.
+/// Appends whether a thread has crossed, and its load.
 fn put_thread(
     heap: &Heap,
     number: usize,
@@ -53,7 +53,7 @@ fn put_thread(
     }
 }
 
-/// Puts the lines of all threads.
+/// Appends the lines of all threads.
 pub fn put_threads(heap: &Heap, text: &mut String) -> Result<(), AllocError> {
     let threads = heap.threads();
     for (number, thread) in threads.iter().enumerate() {
@@ -62,7 +62,7 @@ pub fn put_threads(heap: &Heap, text: &mut String) -> Result<(), AllocError> {
     Ok(())
 }
 
-/// Puts the line of a worker: what it scans, and the number of the next reference.
+/// Appends the line of a worker: the object that it scans, and the number of the next reference.
 fn put_worker(
     heap: &Heap,
     number: usize,
@@ -80,7 +80,7 @@ fn put_worker(
     }
 }
 
-/// Puts the lines of all workers.
+/// Appends the lines of all workers.
 pub fn put_workers(heap: &Heap, text: &mut String) -> Result<(), AllocError> {
     let workers = heap.workers();
     for (number, scan) in workers.iter().enumerate() {
@@ -89,7 +89,7 @@ pub fn put_workers(heap: &Heap, text: &mut String) -> Result<(), AllocError> {
     Ok(())
 }
 
-/// Puts a line for each global that is still to be scanned.
+/// Appends a line for each grey global.
 pub fn put_globals(heap: &Heap, text: &mut String) -> Result<(), AllocError> {
     let globals = heap.globals();
     for (number, global) in globals.iter().enumerate() {

@@ -1,4 +1,4 @@
-//! Commands, whose steps are done one by one, as a run does them.
+//! Commands, whose steps are done one by one, as in a run.
 
 use crate::filmed::Filmed;
 use crate::lines::tell_state;
@@ -12,18 +12,18 @@ use std::fmt::Write as _;
 use std::io;
 use wording::ReplyText;
 
-/// What is written of a command's steps, and what these said.
+/// What is written of a command's steps, and their replies.
 #[derive(Drop)]
 pub struct Take {
     alloc: Global,
-    /// Whether each step is written, with the state behind it.
+    /// Whether each step is written, with the state after it.
     is_whole: bool,
-    /// What the steps of the command said, in order.
+    /// The replies to the command's steps, in order.
     pub replies: Vec<Reply>,
 }
 
 impl Take {
-    /// No command was done.
+    /// Returns the state before the first command.
     pub fn new(alloc: Global, is_whole: bool) -> Take {
         Take {
             alloc,
@@ -33,7 +33,7 @@ impl Take {
     }
 }
 
-/// The line of a step that is to be done.
+/// Returns the line of a step before it is done.
 fn step_line(alloc: Global, actor: Actor, step: &Step) -> Result<String, AllocError> {
     let mut text = String::new(alloc);
     text.push_str("step ")?;
@@ -42,7 +42,7 @@ fn step_line(alloc: Global, actor: Actor, step: &Step) -> Result<String, AllocEr
     Ok(text)
 }
 
-/// The line of what a step said.
+/// Returns the line of a reply.
 fn reply_line(alloc: Global, reply: Reply) -> Result<String, AllocError> {
     let mut text = String::new(alloc);
     let reply = ReplyText(reply);
@@ -50,7 +50,7 @@ fn reply_line(alloc: Global, reply: Reply) -> Result<String, AllocError> {
     Ok(text)
 }
 
-/// One step, which is written with what it says and the state behind it.
+/// Does one step, and writes it with its reply and the state after it.
 fn shot<W: io::Write>(
     alloc: Global,
     book: &mut impl Filmed,
@@ -65,7 +65,7 @@ fn shot<W: io::Write>(
     Ok(reply)
 }
 
-/// One step. That memory was refused is an error, and no reply.
+/// Does one step. Fails if out of memory; so the reply is never `Memory`.
 fn do_step<W: io::Write>(
     take: &mut Take,
     book: &mut impl Filmed,
@@ -85,7 +85,7 @@ fn do_step<W: io::Write>(
     Ok(reply)
 }
 
-/// What follows the traps of a load: its place is healed where a trap was due, and it ends.
+/// Does what follows the traps of a load: heals its place if a trap was due, and ends it.
 fn end_load<W: io::Write>(
     take: &mut Take,
     book: &mut impl Filmed,
@@ -100,7 +100,7 @@ fn end_load<W: io::Write>(
     Ok(())
 }
 
-/// What follows the first step of a load: traps until one is clear, and the load's end.
+/// Does what follows the first step of a load: traps until one is clear, and the load's end.
 fn trap<W: io::Write>(
     take: &mut Take,
     book: &mut impl Filmed,
@@ -118,7 +118,7 @@ fn trap<W: io::Write>(
     end_load(take, book, actor, due, w)
 }
 
-/// All steps of a worker's drain.
+/// Does all steps of a worker's drain.
 fn drain<W: io::Write>(
     take: &mut Take,
     book: &mut impl Filmed,
@@ -137,8 +137,7 @@ fn drain<W: io::Write>(
     Ok(())
 }
 
-/// Does the steps of a command, up to its end or its first refusal: what they say is in the take's replies
-/// then, which held those of the command before.
+/// Does the steps of a command, up to its end or its first error. Their replies replace those of the command before.
 pub fn do_command<W: io::Write>(
     take: &mut Take,
     book: &mut impl Filmed,

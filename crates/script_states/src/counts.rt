@@ -8,8 +8,8 @@ use std::alloc::AllocError;
 use std::fmt::Write as _;
 use wording::{BitText, PhaseText};
 
-/// How many pages are used in each way, how many words of those with memory were lent or are the targets of
-/// copies, and how many words the objects have that the last mark has found.
+/// How many pages are in each state, how many words of those with memory were allocated in buffers or are the targets
+/// of copies, and how many words the live objects have.
 #[derive(Drop)]
 struct Pages {
     open: usize,
@@ -20,7 +20,7 @@ struct Pages {
     live: u64,
 }
 
-/// How many words the objects of a row of bits have, of the page whose words these are.
+/// Returns how many words the objects of a bitmap have, by the words of its page.
 fn row_words(heap: &Heap, row: &Row, words: &[u64]) -> u64 {
     let mut total = 0u64;
     for offset in 0..row.len() {
@@ -31,7 +31,7 @@ fn row_words(heap: &Heap, row: &Row, words: &[u64]) -> u64 {
     total
 }
 
-/// How many words the object at an offset of a page's words has.
+/// Returns how many words the object at an offset of a page's words has.
 fn words_at(heap: &Heap, words: &[u64], offset: usize) -> u64 {
     let Some(bits) = words.get(offset) else {
         return 0;
@@ -42,7 +42,7 @@ fn words_at(heap: &Heap, words: &[u64], offset: usize) -> u64 {
     }
 }
 
-/// How many words the copies have that a side array leads to.
+/// Returns how many words the copies have to which a forwarding table leads.
 fn copied_words(heap: &Heap, side: &Side) -> u64 {
     let mut total = 0u64;
     for number in 0..side.len() {
@@ -53,8 +53,8 @@ fn copied_words(heap: &Heap, side: &Side) -> u64 {
     total
 }
 
-/// How many words the objects have that the last mark has found on the page whose record has an index. Where
-/// the page has given its memory up, they are counted where they are.
+/// Returns how many words the live objects have of the page whose record has an index. If the page has released its
+/// memory, their copies are counted.
 fn live_words(heap: &Heap, index: usize) -> u64 {
     let number = u32::try_from(index.saturating_add(1)).unwrap_or(0);
     if let (Some(row), Some(words)) = (heap.live().get(index), heap.memory().words(number)) {
@@ -84,7 +84,7 @@ impl Pages {
     }
 }
 
-/// The pages of a heap.
+/// Returns the counts of all pages of a heap.
 fn pages_of(heap: &Heap) -> Pages {
     let mut counted = Pages {
         open: 0,
@@ -101,7 +101,7 @@ fn pages_of(heap: &Heap) -> Pages {
     counted
 }
 
-/// Puts the line of counts of a heap behind so many commands.
+/// Appends the line of counts of a heap after `command` commands.
 pub fn put_counts(heap: &Heap, command: u64, text: &mut String) -> Result<(), AllocError> {
     let (phase, nmt, births) = (PhaseText(heap.phase()), BitText(heap.nmt()), heap.births());
     write!(

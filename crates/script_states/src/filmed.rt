@@ -1,18 +1,18 @@
-//! What a film asks of a book. Nothing is promised here: a loop that held a `Book` itself would carry all
-//! that each of its steps promises through its proof.
+//! The calls of a film on a recorded heap. They have no contracts: the proof of a loop over a `Book` itself would
+//! include all promises of each step.
 
 use cycle::{Actor, Book, History, Reply, Step};
 use heap::Heap;
 
-/// A book whose heap is filmed.
+/// A recorded heap whose states are written.
 pub trait Filmed {
-    /// A step of an actor. A refused step changes nothing.
+    /// Does a step of an actor. A rejected step changes nothing.
     fn act(&mut self, actor: Actor, step: Step) -> Reply;
 
-    /// The heap as it stands.
+    /// Returns the current heap.
     fn heap(&self) -> &Heap;
 
-    /// The accepted steps so far.
+    /// Returns the accepted steps so far.
     fn history(&self) -> &History;
 }
 

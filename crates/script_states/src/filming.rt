@@ -1,4 +1,4 @@
-//! Commands one after another, with what is written of them.
+//! Commands one after another, and what is written of them.
 
 use crate::commands::{Take, do_command};
 use crate::counts::put_counts;
@@ -11,7 +11,7 @@ use std::alloc::{AllocError, Global};
 use std::fmt::Write as _;
 use std::io;
 
-/// The line of a command that is to be done, by its number from 1.
+/// Returns the line of a command before it is done, by its number from 1.
 fn command_line(alloc: Global, number: u64, command: &Command) -> Result<String, AllocError> {
     let mut text = String::new(alloc);
     write!(text, "command {number} ")?;
@@ -20,7 +20,7 @@ fn command_line(alloc: Global, number: u64, command: &Command) -> Result<String,
     Ok(text)
 }
 
-/// Does a command: its line is written, each of its steps with the state behind it, and what `run` prints.
+/// Does a command: writes its line, each of its steps with the state after it, and the line that `run` prints.
 fn film_command<W: io::Write>(
     alloc: Global,
     take: &mut Take,
@@ -36,7 +36,7 @@ fn film_command<W: io::Write>(
     Ok(tell_command(number, command, &take.replies, &mut text, w)?)
 }
 
-/// Writes the state of a book, and does commands of which each step is written.
+/// Writes the state of a recorded heap, and does commands, each of whose steps is written.
 pub fn film<W: io::Write>(
     alloc: Global,
     mut book: impl Filmed + Drop,
@@ -54,7 +54,7 @@ pub fn film<W: io::Write>(
     Ok(())
 }
 
-/// Writes the line of counts of a book behind so many commands.
+/// Writes the line of counts of a recorded heap after `number` commands.
 fn tell_counts<W: io::Write>(
     alloc: Global,
     book: &impl Filmed,
@@ -66,13 +66,13 @@ fn tell_counts<W: io::Write>(
     Ok(tell(w, &text)?)
 }
 
-/// Whether counts are written behind the command of a number: behind each so many, and behind the last.
+/// Returns whether counts are written after the command of a number: after each `every` commands, and after the last.
 fn is_counted(number: u64, every: u64, commands: &[Command]) -> bool {
     number.checked_rem(every).unwrap_or(0) == 0 || number == commands.len() as u64
 }
 
-/// Writes the counts of a book, and does commands: its counts are written behind each so many of them, and
-/// behind the last.
+/// Writes the counts of a recorded heap, and does commands: its counts are written after each `every` of them, and
+/// after the last.
 pub fn count<W: io::Write>(
     alloc: Global,
     mut book: impl Filmed + Drop,

@@ -1,4 +1,4 @@
-//! The lines of a state: those of the report, and then what the report leaves out.
+//! The lines of a state: those of the report, and then those that the report lacks.
 
 use crate::actors::{put_globals, put_threads, put_workers};
 use crate::filmed::Filmed;
@@ -10,7 +10,7 @@ use std::alloc::{AllocError, Global};
 use std::fmt::Write as _;
 use std::io;
 
-/// Puts the sizes of a heap, as a script has them, and its layouts.
+/// Appends the sizes of a heap, as a script has them, and its layouts.
 fn put_sizes(heap: &Heap, text: &mut String) -> Result<(), AllocError> {
     let config = heap.config();
     let (words, frames, pages) = (config.words, config.frames, config.pages);
@@ -26,7 +26,7 @@ fn put_sizes(heap: &Heap, text: &mut String) -> Result<(), AllocError> {
     Ok(())
 }
 
-/// Puts what the report leaves out.
+/// Appends the lines that the report lacks.
 fn put_rest(heap: &Heap, text: &mut String) -> Result<(), AllocError> {
     put_pages(heap, text)?;
     put_threads(heap, text)?;
@@ -41,7 +41,7 @@ pub fn tell_sizes<W: io::Write>(alloc: Global, heap: &Heap, w: &mut W) -> Result
     Ok(tell(w, &text)?)
 }
 
-/// Writes the state of a book's heap.
+/// Writes the state of a recorded heap.
 pub fn tell_state<W: io::Write>(alloc: Global, book: &impl Filmed, w: &mut W) -> Result<()> {
     report(alloc, book.heap(), book.history(), w)?;
     let mut text = String::new(alloc);

@@ -24,16 +24,16 @@ use std::alloc::Global;
 use std::io::Write as _;
 use std::{env, fs, io};
 
-/// What the words of the command line ask for.
+/// What the words of the command line request.
 #[derive(Drop)]
 struct Asked {
     /// The script's file.
     file: String,
-    /// Each so many commands counts are written; whole states where there is no such number.
+    /// Counts are written after this many commands each; complete states if it is `None`.
     every: Option<u64>,
 }
 
-/// What the words ask for, behind the program's name.
+/// Returns what the words after the program's name request.
 fn ask(rt: &HostRuntime) -> Result<Asked> {
     let mut words = Vec::new(rt.alloc());
     for word in env::args(rt)?.skip(1) {
@@ -52,7 +52,7 @@ fn ask(rt: &HostRuntime) -> Result<Asked> {
     })
 }
 
-/// The script of a file. It is an error where it has a fault, or commands that only threads of the system do.
+/// Returns the script of a file. Fails if it has a fault, or commands that only a run by threads does.
 fn script_of(rt: &HostRuntime, file: &str) -> Result<Script> {
     let bytes = fs::read(rt, file)?;
     let script = parse(rt.alloc(), &bytes)?;
@@ -62,7 +62,7 @@ fn script_of(rt: &HostRuntime, file: &str) -> Result<Script> {
     Ok(script)
 }
 
-/// Runs a script on a new book, and writes what was asked for.
+/// Runs a script on a new recorded heap, and writes what was requested.
 fn run<W: io::Write>(alloc: Global, script: &Script, every: Option<u64>, w: &mut W) -> Result<()> {
     let book = new_book(alloc, script)?;
     match every {

@@ -1,4 +1,4 @@
-//! The lines of what is on pages: objects, and entries of side arrays.
+//! The lines of the contents of pages: objects, and entries of forwarding tables.
 
 use forward::Side;
 use heap::{Heap, Row, read_reference};
@@ -9,7 +9,7 @@ use std::alloc::AllocError;
 use std::fmt::Write as _;
 use wording::{BitText, WordText};
 
-/// Whether a row has a bit at an offset.
+/// Returns whether a bitmap has a bit at an offset.
 fn bit(row: Option<&Row>, offset: usize) -> BitText {
     match row {
         None => BitText(false),
@@ -17,13 +17,13 @@ fn bit(row: Option<&Row>, offset: usize) -> BitText {
     }
 }
 
-/// Puts a word behind a space, as the report has it.
+/// Appends a space and a reference, as in the report.
 pub(crate) fn put_word(heap: &Heap, bits: u64, text: &mut String) -> Result<(), AllocError> {
     let word = WordText::new(read_reference(bits), heap.memory().page_words());
     write!(text, " {word}")
 }
 
-/// Puts an address behind a space: its page and its offset.
+/// Appends a space and an address: its page and its offset.
 pub(crate) fn put_address(heap: &Heap, address: Addr, text: &mut String) -> Result<(), AllocError> {
     let memory = heap.memory();
     let (page, offset) = (memory.page_of(address), memory.offset_of(address));
@@ -46,7 +46,7 @@ fn put_data(words: &[u64], text: &mut String) -> Result<(), AllocError> {
     Ok(())
 }
 
-/// The words of an object behind its header, in two parts: references and data.
+/// Returns the words of an object after its header, in two parts: references and data.
 fn parts(words: &[u64], offset: usize, layout: Layout) -> (&[u64], &[u64]) {
     let first = offset.saturating_add(1);
     let middle = first.saturating_add(usize::from(layout.refs));
@@ -56,15 +56,14 @@ fn parts(words: &[u64], offset: usize, layout: Layout) -> (&[u64], &[u64]) {
     (references, data)
 }
 
-/// The header of the object at an offset of a page's words, and its layout.
+/// Returns the header of the object at an offset of a page's words, and its layout.
 fn kind_at(heap: &Heap, words: &[u64], offset: usize) -> Option<(Header, Layout)> {
     let header = Header::read(*words.get(offset)?);
     let layout = heap.config().layouts.get(u32::from(header.layout))?;
     Some((header, layout))
 }
 
-/// Puts which bits an object has: whether the last mark has found it, whether the running one has, and
-/// whether it is still to be scanned.
+/// Appends an object's bits: whether the last mark has found it, whether the running one has, and whether it is grey.
 fn put_bits(heap: &Heap, index: usize, offset: usize, text: &mut String) -> Result<(), AllocError> {
     let live = bit(heap.live().get(index), offset);
     let mark = bit(heap.mark().get(index), offset);
@@ -72,7 +71,7 @@ fn put_bits(heap: &Heap, index: usize, offset: usize, text: &mut String) -> Resu
     write!(text, " live {live} mark {mark} todo {todo}")
 }
 
-/// Puts the line of the object at an offset of the page whose record has an index.
+/// Appends the line of the object at an offset of the page whose record has an index.
 fn put_object(
     heap: &Heap,
     index: usize,
@@ -93,7 +92,7 @@ fn put_object(
     text.push('\n')
 }
 
-/// Puts the lines of all objects of a page: its record's index, where they start, and its words.
+/// Appends the lines of all objects of a page, by its record's index, its start bitmap and its words.
 fn put_objects(
     heap: &Heap,
     index: usize,
@@ -109,7 +108,7 @@ fn put_objects(
     Ok(())
 }
 
-/// Puts the line of an entry: its page, its number, where its object was, and where that goes.
+/// Appends the line of an entry: its page, its number, its object's old place, and the new one.
 fn put_entry(
     heap: &Heap,
     page: usize,
@@ -136,7 +135,7 @@ fn put_entries(heap: &Heap, page: usize, side: &Side, text: &mut String) -> Resu
     Ok(())
 }
 
-/// Puts the lines of what is on the page whose record has an index. A page without memory has no objects.
+/// Appends the lines of the contents of the page whose record has an index. A page without memory has no objects.
 fn put_page(heap: &Heap, index: usize, text: &mut String) -> Result<(), AllocError> {
     let number = index.saturating_add(1);
     let words = heap.memory().words(u32::try_from(number).unwrap_or(0));
@@ -149,7 +148,7 @@ fn put_page(heap: &Heap, index: usize, text: &mut String) -> Result<(), AllocErr
     }
 }
 
-/// Puts the lines of what is on all pages.
+/// Appends the lines of the contents of all pages.
 pub fn put_pages(heap: &Heap, text: &mut String) -> Result<(), AllocError> {
     for index in 0..heap.memory().pages().len() {
         put_page(heap, index, text)?;

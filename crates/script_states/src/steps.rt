@@ -6,7 +6,7 @@ use std::alloc::{AllocError, Global};
 use std::fmt::Write as _;
 use wording::ActorText;
 
-/// Puts the step of a thread on its buffer, its registers or its data.
+/// Appends the step of a thread on its buffer, its registers or its data.
 fn put_own(text: &mut String, step: &Step) -> Result<(), AllocError> {
     match step {
         Step::Take(words) => write!(text, "take {words}"),
@@ -26,7 +26,7 @@ fn put_own(text: &mut String, step: &Step) -> Result<(), AllocError> {
     }
 }
 
-/// Puts the step of a thread on references, globals or checkpoints.
+/// Appends the step of a thread on references, globals or checkpoints.
 fn put_shared(text: &mut String, step: &Step) -> Result<(), AllocError> {
     match step {
         Step::Load {
@@ -52,7 +52,7 @@ fn put_shared(text: &mut String, step: &Step) -> Result<(), AllocError> {
     }
 }
 
-/// Puts the step of a worker.
+/// Appends the step of a worker.
 fn put_work(text: &mut String, step: &Step) -> Result<(), AllocError> {
     match step {
         Step::StartMark => text.push_str("mark"),
@@ -69,7 +69,7 @@ fn put_work(text: &mut String, step: &Step) -> Result<(), AllocError> {
     }
 }
 
-/// Puts the protection of pages.
+/// Appends the protection of pages.
 fn put_protect(text: &mut String, pages: &[u32]) -> Result<(), AllocError> {
     text.push_str("protect")?;
     for page in pages {
@@ -78,14 +78,14 @@ fn put_protect(text: &mut String, pages: &[u32]) -> Result<(), AllocError> {
     Ok(())
 }
 
-/// Puts a step as a script has it: its actor, its word and its operands.
+/// Appends a step as a script has it: its actor, its word and its operands.
 pub fn put_step(text: &mut String, actor: Actor, step: &Step) -> Result<(), AllocError> {
     let actor = ActorText(actor);
     write!(text, "{actor} ")?;
     put_own(text, step)
 }
 
-/// Puts an order as a script has it.
+/// Appends an order as a script has it.
 fn put_order(alloc: Global, text: &mut String, order: &Order) -> Result<(), AllocError> {
     let (first, second, third) = (order.first, order.second, order.third);
     match order.verb {
@@ -96,7 +96,7 @@ fn put_order(alloc: Global, text: &mut String, order: &Order) -> Result<(), Allo
     }
 }
 
-/// Puts a command as a script has it.
+/// Appends a command as a script has it.
 pub fn put_command(alloc: Global, text: &mut String, command: &Command) -> Result<(), AllocError> {
     let actor = ActorText(command.actor);
     write!(text, "{actor} ")?;

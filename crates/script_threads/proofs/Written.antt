@@ -1,4 +1,4 @@
--- Texts of a list's elements that are written one after another.
+-- Texts of a list's elements, written one after another.
 use Rattle.std.proofs.Common.{◌≡◌, ℕ, ◌+◌, ◌<◌, ◌≤◌, List, [], ◌++◌, length, drop, get_or, Option}
 use Rattle.std.proofs.Common.{refl, subst, add-one, drop-cons}
 use Rattle.std.proofs.lemmas.List.{drop_all}
@@ -7,7 +7,7 @@ use Rattle.std.specs.Io.KnownBytes.{Appends}
 use Rattle.wording.specs.Texts.{Leads}
 use Rattle.wording.proofs.Leading.{leads_step, leads_end}
 
--- the first of the texts that are left
+-- the first of the remaining texts
 next_text : {X : Type 0} (f : X → List ℕ) (i : ℕ) (xs : List X) (d : X) → i < length xs
     → flat_map f (drop i xs) ≡ f (get_or xs i d) ++ flat_map f (drop (i + 1) xs)
 next_text f i xs d h = rw (add-one, drop-cons xs i d h) refl

@@ -9,7 +9,7 @@ abbrev pub is_line : ThreadsFault → Bool
 is_line (Line fault) = true
 is_line other = false
 
--- a run that wasn't done, since the script has such a command: the first one is told
+-- a run that wasn't begun, since the script has such a command: its fault is the first one's
 abbrev pub TellsLine : {X : Type 0} → Option LineFault → Result X ThreadsFault → Type 0
 TellsLine first (Err (Line fault)) = first ≡ Some fault
 TellsLine first other = ⊥

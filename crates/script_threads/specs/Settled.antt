@@ -1,4 +1,4 @@
--- What a run by threads prints.
+-- The text that a run by threads prints.
 use Rattle.std.specs.Prelude.{ℕ, List, [], ◌∷◌, ◌++◌, sum_by, codes}
 use Rattle.std.specs.Fmt.{decimal}
 use Rattle.std.specs.List.{flat_map}
@@ -15,12 +15,12 @@ abbrev pub birth_of : Answer → ℕ
 birth_of (answers.Birth b) = 1
 birth_of _ = 0
 
--- the datum that was read
+-- the datum that was read; 0 for another answer
 abbrev pub datum_of : Answer → ℕ
 datum_of (answers.Datum value) = value
 datum_of _ = 0
 
--- how many objects were born in a list
+-- how many objects were allocated in a list
 abbrev pub births_in : List Entry → ℕ
 births_in es = sum_by (λ e. birth_of e.answer) es
 
@@ -46,7 +46,7 @@ seat_text seat = actor_line seat.actor seat.list
 abbrev pub seats_text : List SeatState → List ℕ
 seats_text seats = flat_map seat_text seats
 
--- a line for each thread, then that all is settled
+-- a line for each thread, then the line of settled seats
 abbrev pub settled_text : List SeatState → List ℕ
 settled_text seats = seats_text seats ++ codes "settled" ++ 10 ∷ []
 

@@ -1,4 +1,4 @@
-//! The cycles of the worker that has commands.
+//! The cycles of worker 0, the only worker with commands.
 
 use crate::gate::Gate;
 use crate::run::Run;
@@ -15,7 +15,7 @@ use std::sync::Wait;
 use std::thread;
 use std::thread::Threads;
 
-/// The first parked thread that hasn't crossed.
+/// Returns the first parked thread that hasn't crossed.
 fn first_parked(heap: &Heap) -> Option<u32> {
     let mut number = 0u32;
     for thread in heap.threads() {
@@ -34,7 +34,7 @@ pub(crate) struct Collector {
 }
 
 impl Collector {
-    /// Crosses for parked threads until the phase has come. False where all stop.
+    /// Crosses for parked threads until the heap is in a phase. Returns false if the run has stopped.
     fn wait_for<R: Wait, G: Gate>(&self, run: &Run<R, G>, seat: &mut Seat, phase: Phase) -> bool {
         for _ in run.rt.forever() {
             if run.is_stopped() {
@@ -56,7 +56,7 @@ impl Collector {
         unreachable!()
     }
 
-    /// Drains the mark and ends it. False if all stop, or it is refused for good.
+    /// Drains the mark and ends it. Returns false if the run has stopped, or an error remains.
     fn end_mark<R: Wait, G: Gate>(&mut self, run: &Run<R, G>, seat: &mut Seat) -> bool {
         for _ in run.rt.forever() {
             drain(run, seat, &mut self.scanner);
@@ -80,8 +80,8 @@ impl Collector {
         let _ = run.ask(seat, &Step::Release(page));
     }
 
-    /// Protects the pages that are chosen, until all threads have crossed. The pages; none where that is
-    /// refused. The error is want of memory.
+    /// Protects the chosen pages, and waits until all threads have crossed. Returns the pages; none if that was
+    /// rejected. Fails only if out of memory.
     fn protect<R: Wait, G: Gate>(
         &self,
         alloc: Global,
@@ -103,8 +103,8 @@ impl Collector {
         Ok(pages)
     }
 
-    /// The first part of a cycle: marks, and protects the pages that are chosen, which it gives. The
-    /// error is want of memory.
+    /// Does the first half of a cycle: a mark, and the protection of the chosen pages, which it returns. Fails only
+    /// if out of memory.
     fn roll<R: Wait, G: Gate>(
         &mut self,
         alloc: Global,
@@ -121,7 +121,7 @@ impl Collector {
         self.protect(alloc, run, seat, percent)
     }
 
-    /// A whole cycle: its first part, and then each page is emptied. The error is want of memory.
+    /// Does a complete cycle: its first half, and then empties each page. Fails only if out of memory.
     fn cycle<R: Threads + Wait + Sync, G: Gate>(
         &mut self,
         alloc: Global,
@@ -136,7 +136,7 @@ impl Collector {
         Ok(())
     }
 
-    /// One command. The error is want of memory.
+    /// Does one command. Fails only if out of memory.
     fn command<R: Threads + Wait + Sync, G: Gate>(
         &mut self,
         alloc: Global,
@@ -154,7 +154,7 @@ impl Collector {
         }
     }
 
-    /// All commands of the worker in order.
+    /// Does all commands of the worker in order.
     pub(crate) fn work<R: Threads + Wait + Sync, G: Gate>(
         mut self,
         alloc: Global,
@@ -177,7 +177,7 @@ impl Collector {
     }
 }
 
-/// Whether a command is worker 0's.
+/// Returns whether a command is worker 0's.
 fn is_worker_0(command: &Command) -> bool {
     matches!(command.actor, Actor::Worker(0))
 }

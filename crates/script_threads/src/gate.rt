@@ -1,21 +1,21 @@
-//! Gates: what is called around each step, outside the lock.
+//! Callbacks before and after each step, outside the lock.
 
 use cycle::{Actor, Step};
 
-/// What is called around each step, outside the lock. It may hold up the thread that calls it.
+/// Callbacks before and after each step, outside the lock. They may delay the thread that calls them.
 pub trait Gate {
-    /// Whether it watches: then each step is one hold of the lock, between `before` and `after`. For a
-    /// gate that doesn't, a worker does several steps that scan in one hold, and calls nothing there.
+    /// Whether each step takes the lock once, between `before` and `after`. If not, a worker does several steps that
+    /// scan under one hold of the lock, and makes no callbacks for these.
     const WATCHES: bool = true;
 
-    /// An actor is about to do a step.
+    /// Called before a step of an actor.
     fn before(&self, actor: Actor, step: &Step);
 
-    /// Its step was answered.
+    /// Called after the step, when it has its reply.
     fn after(&self, actor: Actor, step: &Step);
 }
 
-/// A gate that watches nothing.
+/// A gate whose callbacks do nothing.
 pub struct OpenGate;
 
 impl Gate for OpenGate {

@@ -1,4 +1,4 @@
-//! Runs of scripts in which each actor has a thread of the system, and what they print.
+//! Runs of scripts in which each actor has a system thread, and the text that they print.
 #![tactic(auto)]
 
 mod collector;

@@ -1,4 +1,4 @@
-//! What a mutator's thread does.
+//! The work of a mutator's thread.
 
 use crate::gate::Gate;
 use crate::run::Run;
@@ -10,7 +10,7 @@ use sharing::Seat;
 use std::alloc::Global;
 use std::sync::Wait;
 
-/// Whether a thread has a checkpoint to cross, and may: it is neither in a barrier nor parked.
+/// Returns whether a thread has yet to cross the open checkpoint, and can: it has no open barrier and isn't parked.
 fn is_to_cross(heap: &Heap, thread: u32) -> bool {
     match heap.threads().get(thread as usize) {
         Some(thread) => {
@@ -20,7 +20,7 @@ fn is_to_cross(heap: &Heap, thread: u32) -> bool {
     }
 }
 
-/// Whether a thread is in a barrier.
+/// Returns whether a thread has an open barrier.
 fn is_loading(heap: &Heap, thread: u32) -> bool {
     match heap.threads().get(thread as usize) {
         Some(thread) => thread.barrier().is_some(),
@@ -28,7 +28,7 @@ fn is_loading(heap: &Heap, thread: u32) -> bool {
     }
 }
 
-/// Whether a register of a thread isn't null.
+/// Returns whether a register of a thread isn't null.
 fn is_used(heap: &Heap, thread: u32, register: u32) -> bool {
     match heap.threads().get(thread as usize) {
         Some(thread) => !thread.register(register).is_null(),
@@ -36,17 +36,17 @@ fn is_used(heap: &Heap, thread: u32, register: u32) -> bool {
     }
 }
 
-/// Whether a reply is that the register is stale.
+/// Returns whether a reply is the error that the register is stale.
 fn is_stale(reply: Reply) -> bool {
     matches!(reply, Err(Refusal::Stale))
 }
 
-/// Whether a step was accepted.
+/// Returns whether a step was accepted.
 fn is_accepted(reply: Option<Reply>) -> bool {
     matches!(reply, Some(Ok(_)))
 }
 
-/// A mutator at its thread.
+/// A mutator in its thread.
 #[derive(Drop)]
 pub(crate) struct Mutator<'a, R, G> {
     pub(crate) run: &'a Run<'a, R, G>,
@@ -55,7 +55,7 @@ pub(crate) struct Mutator<'a, R, G> {
 }
 
 impl<R: Wait, G: Gate> Mutator<'_, R, G> {
-    /// Crosses a checkpoint, where one is to be crossed.
+    /// Crosses the open checkpoint, if the thread has yet to and can.
     fn cross(&self, seat: &mut Seat) {
         let thread = self.thread;
         let run = self.run;
@@ -67,7 +67,7 @@ impl<R: Wait, G: Gate> Mutator<'_, R, G> {
         }
     }
 
-    /// Corrects each register that isn't null, until all stop.
+    /// Corrects each register that isn't null, until the run stops.
     fn scrub(&self, seat: &mut Seat) {
         let thread = self.thread;
         let run = self.run;
@@ -81,8 +81,8 @@ impl<R: Wait, G: Gate> Mutator<'_, R, G> {
         }
     }
 
-    /// One step, after a checkpoint that is to be crossed. After a stale register all are corrected,
-    /// and the step is asked for again. `None` if all stop.
+    /// Does one step, after crossing if that is due. After an error that a register is stale, corrects all and
+    /// repeats the step. Returns `None` if the run has stopped.
     fn step(&self, seat: &mut Seat, step: &Step) -> Option<Reply> {
         for _ in self.run.rt.forever() {
             self.cross(seat);
@@ -95,8 +95,8 @@ impl<R: Wait, G: Gate> Mutator<'_, R, G> {
         unreachable!()
     }
 
-    /// Goes on with a load to its end, or to the first refusal, or until all stop: traps until one is
-    /// clear, heals if one was due, and finishes.
+    /// Continues a load to its end, to its first error, or until the run stops: traps until one is clear, heals if
+    /// one was due, and finishes.
     fn end_load(&self, seat: &mut Seat, healing: bool) {
         let mut due = healing;
         for _ in self.run.rt.forever() {
@@ -112,7 +112,7 @@ impl<R: Wait, G: Gate> Mutator<'_, R, G> {
         let _ = self.step(seat, &Step::Finish);
     }
 
-    /// One command.
+    /// Does one command.
     fn command(&self, alloc: Global, seat: &mut Seat, command: &Command) {
         let Ok(step) = command.order.step(alloc) else {
             self.run.lack();
@@ -124,7 +124,7 @@ impl<R: Wait, G: Gate> Mutator<'_, R, G> {
         }
     }
 
-    /// Ends a barrier that is open, gives the buffer back, and parks.
+    /// Ends an open load, gives the buffer back, and parks.
     fn end(&self, seat: &mut Seat) {
         let thread = self.thread;
         let run = self.run;
@@ -138,7 +138,7 @@ impl<R: Wait, G: Gate> Mutator<'_, R, G> {
         let _ = self.step(seat, &Step::Park);
     }
 
-    /// All commands of the seat's actor in order, and then the end; nothing more once all stop.
+    /// Does all commands of the seat's actor in order, and then `end`; nothing more once the run has stopped.
     pub(crate) fn work(&self, alloc: Global, mut seat: Seat, commands: &[Command]) -> Seat {
         for command in commands {
             if is_of(command, self.thread) {
@@ -154,7 +154,7 @@ impl<R: Wait, G: Gate> Mutator<'_, R, G> {
     }
 }
 
-/// Whether a command is a thread's.
+/// Returns whether a command is a thread's.
 fn is_of(command: &Command, thread: u32) -> bool {
     match command.actor {
         Actor::Thread(number) => number == thread,

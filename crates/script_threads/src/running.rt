@@ -26,9 +26,9 @@ use std::vec::IntoIter;
 /// Why a run by threads has no result.
 #[derive(Clone, Copy, Debug, PartialEq, Eq)]
 pub enum ThreadsFault {
-    /// Memory was refused, or a thread couldn't be started.
+    /// Out of memory, or a thread couldn't be started.
     Memory,
-    /// The seats and the history disagree on this actor.
+    /// The seats and the history disagree for this actor.
     Stray(Actor),
     /// The script has a command that a run by threads doesn't do.
     Line(LineFault),
@@ -50,7 +50,7 @@ impl<T: Drop> From<AllocFailed<T>> for ThreadsFault {
     }
 }
 
-/// The sizes of a heap that its actors ask for.
+/// The sizes of a heap that its actors need.
 #[derive(Clone, Copy)]
 struct Sizes {
     threads: u32,
@@ -58,7 +58,7 @@ struct Sizes {
     registers: u32,
 }
 
-/// The work of one actor, in its own thread; a worker's with its seat at the hints.
+/// Does the work of one actor, in its own thread; for a worker with its seat of hints.
 fn play<R: Threads + Wait + Sync, G: Gate>(
     run: &Run<R, G>,
     alloc: Global,
@@ -85,7 +85,7 @@ fn play<R: Threads + Wait + Sync, G: Gate>(
     }
 }
 
-/// The next seat at the hints, if the seat is a worker's.
+/// Returns the next seat of hints, if the seat is a worker's.
 fn hints_for(seat: &Seat, hints: &mut IntoIter<HintSeat>) -> Option<HintSeat> {
     match seat.actor() {
         Actor::Thread(_) => None,
@@ -93,7 +93,8 @@ fn hints_for(seat: &Seat, hints: &mut IntoIter<HintSeat>) -> Option<HintSeat> {
     }
 }
 
-/// A thread for each actor, and the seats as they leave them.
+/// Starts a thread for each actor, and returns the seats when they have ended. Fails if out of memory, or if a thread
+/// couldn't be started.
 fn all_played<R: Threads + Wait + Sync, G: Gate + Sync>(
     run: &Run<R, G>,
     alloc: Global,
@@ -124,8 +125,8 @@ fn all_played<R: Threads + Wait + Sync, G: Gate + Sync>(
     })
 }
 
-/// Does the commands on a shared book by threads, one for each seat, and returns the seats as these
-/// leave them.
+/// Does the commands on a shared recorded heap by threads, one for each seat, and returns the seats when they have
+/// ended. Fails if out of memory, or if a thread couldn't be started.
 fn played<R: Threads + Wait + Sync, G: Gate + Sync>(
     rt: &R,
     alloc: Global,
@@ -149,7 +150,7 @@ fn played<R: Threads + Wait + Sync, G: Gate + Sync>(
     all_played(&run, alloc, seats, hints, commands, sizes)
 }
 
-/// Does the commands on a book by threads, one for each actor.
+/// Does the commands on a recorded heap by threads, one for each actor.
 fn raced<R: Threads + Wait + Sync, G: Gate + Sync>(
     rt: &R,
     alloc: Global,
@@ -173,7 +174,7 @@ fn raced<R: Threads + Wait + Sync, G: Gate + Sync>(
     settled_or_stray(shared, seats)
 }
 
-/// The book and the seats, where they agree.
+/// Returns the recorded heap and the seats, if they agree.
 fn settled_or_stray(
     shared: Shared,
     seats: Result<Vec<Seat>, AllocError>,
@@ -190,12 +191,12 @@ fn settled_or_stray(
     }
 }
 
-/// Runs a script on a new heap by threads of the system, one for each actor: each does its own commands
-/// in the script's order, each step through the gate and in one hold of the lock (of a gate that doesn't
-/// watch, several steps that scan in one hold). Then the seats and the history are settled.
+/// Runs a script on a new heap by system threads, one for each actor: each does its own commands in the script's
+/// order, each step through the gate and under one hold of the lock (several steps that scan under one hold, if the
+/// gate doesn't watch). Then the seats and the history are settled.
 ///
-/// The faults are want of memory, also where a thread couldn't be started; a stray actor; and, before any
-/// step, exactly where the script has one, the first command that such a run doesn't do.
+/// Fails with `Memory` if out of memory or if a thread couldn't be started, and with `Stray`; and with `Line`, before
+/// any step, if the script has a command that such a run doesn't do: the first one's fault.
 pub fn by_threads<R: Threads + Wait + Sync, G: Gate + Sync>(
     rt: &R,
     alloc: Global,

@@ -1,4 +1,4 @@
-//! What a worker scans next.
+//! The choice of what a worker scans next.
 
 use cycle::{Answer, Reply, Step};
 use heap::Heap;
@@ -8,19 +8,19 @@ use model::{Place, Refusal, Scan};
 use refword::{Addr, Word};
 use sharing::Steps;
 
-/// A worker that scans: it decides its next step by its own state, a hint and the heap.
+/// A worker that scans: it decides its next step by its own state, hints and the heap.
 #[derive(Drop)]
 pub(crate) struct Scanner {
     worker: u32,
     /// How many workers there are.
     workers: u32,
-    /// Its seat at the hints. They are advice: a worker without any finds objects by the heap alone.
+    /// Its seat of hints. A worker without hints finds objects by the heap alone.
     hints: Option<HintSeat>,
-    /// The object that its last step scanned, and the reference field.
+    /// The object that its last step scanned, and the number of the reference field.
     scanned: Option<Scan>,
 }
 
-/// The object that a worker has, and its next field.
+/// Returns the object that a worker is scanning, and its next field.
 fn scan_of(heap: &Heap, worker: u32) -> Option<Scan> {
     match heap.workers().get(worker as usize) {
         Some(scan) => *scan,
@@ -28,7 +28,7 @@ fn scan_of(heap: &Heap, worker: u32) -> Option<Scan> {
     }
 }
 
-/// The object that a reference field names now.
+/// Returns the object that a reference field refers to now.
 fn named(heap: &Heap, scan: Scan) -> Option<Addr> {
     let place = Place::Field {
         object: scan.object,
@@ -37,7 +37,7 @@ fn named(heap: &Heap, scan: Scan) -> Option<Addr> {
     Word::read(heap.bits_at(place)?)?.addr()
 }
 
-/// The step by which a worker takes an object.
+/// Returns the step by which a worker picks an object.
 fn pick(heap: &Heap, address: Addr) -> Step {
     Step::Pick {
         page: u32::try_from(heap.memory().page_of(address)).unwrap_or(u32::MAX),
@@ -46,7 +46,7 @@ fn pick(heap: &Heap, address: Addr) -> Step {
 }
 
 impl Scanner {
-    /// Worker `worker` of `workers`, with its seat at the hints.
+    /// Returns worker `worker` of `workers`, with its seat of hints.
     pub(crate) fn new(worker: u32, workers: u32, hints: Option<HintSeat>) -> Scanner {
         Scanner {
             worker,
@@ -56,7 +56,7 @@ impl Scanner {
         }
     }
 
-    /// A hint of its own, else one of another worker, tried by rising numbers.
+    /// Takes a hint of its own, else one of another worker, tried by rising numbers.
     fn hint(&mut self) -> Option<Addr> {
         let workers = self.workers;
         let hints = self.hints.as_mut()?;
@@ -71,7 +71,7 @@ impl Scanner {
         None
     }
 
-    /// The number of the next global to be marked, which is left to worker 0.
+    /// Returns the number of the first grey global, for worker 0 only.
     fn global(&self, heap: &Heap) -> Option<u32> {
         if self.worker == 0 {
             u32::try_from(heap.first_todo_global()?).ok()
@@ -80,8 +80,8 @@ impl Scanner {
         }
     }
 
-    /// Hints at the object that the field names which was scanned last. A hint for which there is no
-    /// room is dropped, since `next_todo` still finds the object.
+    /// Pushes a hint to the object that the last scanned field refers to. A hint for which there is no space is
+    /// dropped, since `next_todo` still finds the object.
     fn push(&mut self, heap: &Heap) {
         let Some(scan) = self.scanned else {
             return;
@@ -93,9 +93,8 @@ impl Scanner {
 }
 
 impl Steps for Scanner {
-    /// The worker scans the object that it has; else worker 0 marks the first global that is still to
-    /// be marked; else it picks the object of a hint, and where there is none, the one that
-    /// `next_todo` finds.
+    /// The worker scans the object that it has picked; else worker 0 marks the first grey global; else it picks the
+    /// object of a hint, or if there is none, the one that `next_todo` finds.
     fn next(&mut self, heap: &Heap) -> Option<Step> {
         self.scanned = scan_of(heap, self.worker);
         if self.scanned.is_some() {
@@ -111,8 +110,8 @@ impl Steps for Scanner {
         Some(pick(heap, address))
     }
 
-    /// After a scanned field it pushes a hint. An object that is scanned by now, or that another
-    /// worker has, is passed over.
+    /// After a scanned field it pushes a hint. The error that an object is already scanned, or that another worker
+    /// has it, is passed over.
     fn note(&mut self, heap: &Heap, reply: Reply) -> bool {
         match reply {
             Ok(Answer::Scanned) => {

@@ -1,4 +1,4 @@
-//! Workers that scan until nothing is left.
+//! Scanning until nothing is left.
 
 use crate::gate::Gate;
 use crate::run::Run;
@@ -9,14 +9,14 @@ use std::sync::Wait;
 use std::thread;
 use std::time::Duration;
 
-/// How many microseconds a worker that has found nothing waits before it looks again.
+/// How many microseconds a worker that has found nothing waits before it tries again.
 const PAUSE: u64 = 50;
 
-/// How often a worker that has done several steps in one hold of the lock asks whether all is over before
-/// it takes the lock again: some 20 microseconds, in which others get it.
+/// How often a worker that has done several steps under one hold of the lock tests whether the run is over, before it
+/// takes the lock again: some 20 microseconds, in which others get the lock.
 const LULL: u32 = 24_576;
 
-/// Leaves the lock alone for a while, so that those who have steps to do meet nobody who only looks.
+/// Waits for a while, so that threads with steps to do needn't wait for the lock.
 pub(crate) fn pause<R: Wait, G: Gate>(run: &Run<R, G>) {
     run.wait(Duration::from_micros(PAUSE));
 }
@@ -31,7 +31,7 @@ fn rest<R: Wait, G: Gate>(run: &Run<R, G>) {
     thread::yield_now();
 }
 
-/// Scans until nothing is left that no other worker has, or all stop.
+/// Scans until nothing is left that no other worker has, or the run stops.
 pub(crate) fn drain<R: Wait, G: Gate>(run: &Run<R, G>, seat: &mut Seat, scanner: &mut Scanner) {
     for _ in run.rt.forever() {
         if run.is_stopped() || !run.scan(seat, scanner) {
@@ -44,7 +44,7 @@ pub(crate) fn drain<R: Wait, G: Gate>(run: &Run<R, G>, seat: &mut Seat, scanner:
     unreachable!()
 }
 
-/// Scans whatever is found until all commands are done, or all stop.
+/// Scans what is grey until all commands are done, or the run stops.
 pub(crate) fn help<R: Wait, G: Gate>(
     run: &Run<R, G>,
     mut seat: Seat,

@@ -1,4 +1,4 @@
-//! What a list of a thread's steps comes to.
+//! Sums over the list of a thread's steps.
 
 ghost use Rattle.std.specs.Prelude.{◌≡◌, ◌<◌, ◌≤◌, length, slice_get, IfSome};
 ghost use Rattle.script_threads.specs.Settled.{birth_of, births_in, data_in, datum_of};
@@ -7,16 +7,16 @@ use entries::History;
 use model::Answer;
 use std::fmt;
 
-/// What a list says of its thread.
+/// Sums over the list of a thread.
 #[derive(Clone, Copy, Debug, PartialEq, Eq)]
 pub struct Sums {
-    /// How many objects it has made.
+    /// How many objects it has allocated.
     pub births: u64,
     /// The sum of all data that it has read.
     pub total: u128,
 }
 
-/// The answer of the entry of a number, from 0.
+/// Returns the answer of an entry, by its number from 0, which must exist.
 fn answer_at(list: &History, index: usize) -> Answer
     requires { index < length list.now.entries }
     ensures { IfSome (slice_get list.now.entries index) (λ e. result ≡ e.answer) }
@@ -27,7 +27,7 @@ fn answer_at(list: &History, index: usize) -> Answer
     }
 }
 
-/// A birth counts 1.
+/// Returns 1 for a birth, else 0.
 fn birth_of(answer: Answer) -> u64
     ensures value { result ≡ birth_of answer }
     ensures bound { result ≤ 1 }
@@ -38,7 +38,7 @@ fn birth_of(answer: Answer) -> u64
     }
 }
 
-/// The datum that was read, or 0.
+/// Returns the datum that was read, or 0.
 fn datum_of(answer: Answer) -> u64
     ensures { result ≡ datum_of answer }
 {
@@ -48,7 +48,7 @@ fn datum_of(answer: Answer) -> u64
     }
 }
 
-/// The sums of a list: they are exact, as neither can pass its type.
+/// Returns the sums over a list. They are exact, as neither can exceed its type.
 pub fn add_up(list: &History) -> Sums
     ensures births { result.births ≡ births_in list.now.entries }
     ensures total { result.total ≡ data_in list.now.entries }

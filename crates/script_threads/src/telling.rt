@@ -10,7 +10,7 @@ use sharing::{Seat, Settled};
 use std::io;
 use wording::ActorText;
 
-/// Writes the line of a stray actor, as `stray t0`. The error is a writer that failed.
+/// Writes the line of a stray actor, as `stray t0`. Fails only if the writer fails.
 pub fn tell_stray<W: io::Write>(actor: Actor, w: &mut W) -> io::Result<()>
     ensures { OnOk result (Appends (W.contents w.old) (W.contents w.new) (stray_text actor)) }
 {
@@ -41,9 +41,8 @@ fn tell_seats<W: io::Write>(seats: &[Seat], w: &mut W) -> io::Result<()>
     Ok(())
 }
 
-/// Writes a line for each thread's seat, in the order of the seats, with how many objects were born in
-/// its list and the sum of the data that were read there, and then that all is settled. The error is a
-/// writer that failed.
+/// Writes a line for each thread's seat, in the order of the seats, with how many objects were allocated in its list
+/// and the sum of the data that were read there, and then the line of settled seats. Fails only if the writer fails.
 pub fn tell_threads<W: io::Write>(settled: &Settled, w: &mut W) -> io::Result<()>
     ensures { OnOk result (Appends (W.contents w.old) (W.contents w.new) (settled_text settled.now.seats.items)) }
 {

@@ -1,4 +1,4 @@
--- A portion of a drain grows by one step after another.
+-- A quantum of a drain grows step by step.
 use Rattle.std.proofs.Common.{◌≡◌, ℕ, suc, ◌+◌, Bool, true, false, List, [], ◌∷◌, ◌++◌, length, length-append}
 use Rattle.std.proofs.Common.{Option, Some, None, refl, ap, sym, subst, ◌∙◌, append_assoc, append-nil}
 use Rattle.std.specs.Prelude.{Result, Ok, Err, if◌then◌else◌, ◌||◌, nat_le}
@@ -21,7 +21,7 @@ use Rattle.cycle.specs.Drains.{drain_step, drain_within}
 use Rattle.sharing.specs.Seats.{SeatState, Notes}
 use Rattle.sharing.specs.Portions.{IsPortion}
 
--- ---- one step behind others
+-- ---- one step after others
 
 no_step : (b c : BookState) (w : ℕ) → drain_within 0 b w ≡ tell c [] → b ≡ c
 unfolding drain_within
@@ -32,7 +32,7 @@ first_step : (b c : BookState) (w : ℕ) (step : Step) (a : Answer) → next_dra
 unfolding drain_within step_then
 first_step b c w step a next e = rw (next, e) refl
 
--- what follows a step of a drain that was accepted, as others behind it were
+-- what follows a step of a drain that was accepted, if the ones after it were too
 record Went (n : ℕ) (b d : BookState) (w : ℕ) (a : Answer) (rs : List Reply) : Type 0 where
   c : BookState
   step : Step
@@ -117,7 +117,7 @@ acted_history b c actor step a h = by_full (is_full b) h
     by_full true k = absurd cc
     by_full false k = entered b c actor step (outcome b.heap actor step) a k
 
--- ---- portions
+-- ---- quanta
 
 pub none_done : (w : ℕ) (s : SeatState) (b : BookState) → IsPortion 0 w s b s b
 unfolding drain_within
@@ -129,7 +129,7 @@ none_done w s b = record {
   drained = refl;
 }
 
--- a step behind those of a portion
+-- a step after those of a quantum
 pub one_more : (n w : ℕ) (s t u : SeatState) (b c d : BookState) (step : Step) (reply : Reply) (a : Answer)
     → IsPortion n w s b t c → s.actor ≡ Worker w → next_drain c.heap w ≡ Some step → reply ≡ Ok a
     → Acts c reply d (act_outcome c t.actor step) → Notes t step reply u → IsPortion (n + 1) w s b u d
@@ -170,7 +170,7 @@ no_actor : (h : HeapState) (t : ℕ) → outcome h (Thread t) steps.ScanField �
 unfolding outcome
 no_actor h t = rw (gate_refuses h t) refl
 
--- a step that scans is refused to a thread
+-- a step that scans is rejected for a thread
 pub full_refused : (b : BookState) (t : ℕ) → is_full b ≡ true
     → act_outcome b (Thread t) steps.ScanField ≡ Err refusals.HistoryFull
 unfolding act_outcome

@@ -1,4 +1,4 @@
--- Several steps of one actor grow by one after another.
+-- Several steps of one actor, one after another.
 use Rattle.std.proofs.Common.{◌≡◌, ◌≤◌, ℕ, ◌+◌, List, [], ◌∷◌, ◌++◌, length, length-append, arith, Bool}
 use Rattle.std.proofs.Common.{refl, ap, sym, subst, ◌∙◌, append_assoc, append-nil}
 use Rattle.std.specs.Prelude.{Result, Ok, Err}
@@ -26,7 +26,7 @@ none_grown s b = record {
   led = refl;
 }
 
--- one more step of the actor, whatever is answered
+-- one more step of the actor, with any reply
 pub grown_more : (n : ℕ) (s t u : SeatState) (b c d : BookState) (step : Step) (reply : Reply) → HasGrown n s b t c
     → Acts c reply d (act_outcome c t.actor step) → Notes t step reply u → HasGrown (n + 1) s b u d
 grown_more n s t u b c d step (Ok a) g acts notes =
@@ -52,7 +52,7 @@ grown_more n s t u b c d step (Err f) g acts notes = record {
   led = subst (λ (y : BookState). LeadTo s.actor g.steps b y) (sym acts.1) g.led;
 }
 
--- as many steps are no more than a larger number
+-- a number of steps is also at most a larger number
 pub grown_within : (n most : ℕ) (s t : SeatState) (b c : BookState) → n ≤ most → HasGrown n s b t c
     → HasGrown most s b t c
 grown_within n most s t b c low g = record {
@@ -63,7 +63,7 @@ grown_within n most s t b c low g = record {
   led = g.led;
 }
 
--- a refused step of a seat whose actor is that of another
+-- a rejected step of a seat whose actor is that of another
 pub ended : (s t : SeatState) (b c : BookState) (step : Step) (e : Refusal) → t.actor ≡ s.actor
     → Acts b (Err e) c (act_outcome b t.actor step) → EndsMany (Err e) s.actor c
 ended s t b c step e same acts = (

@@ -1,4 +1,4 @@
--- Seats for one actor after another.
+-- Seats for each actor in turn.
 use Rattle.std.proofs.Common.{◌≡◌, ℕ, ◌+◌, List, [], ◌∷◌, ◌++◌, map, sym, ap, ◌∙◌, append_assoc, arith}
 use Rattle.std.specs.List.{range_with_len}
 use Rattle.std.proofs.lemmas.List.{map-append}
@@ -14,7 +14,7 @@ seats_more f es n =
     ap (map (seat_from es)) (map-range_with_len_more f 0 n n (omega arith))
     ∙ map-append (seat_from es) (map f (range_with_len 0 n)) (f n ∷ [])
 
--- one more seat is put behind
+-- one more seat is appended
 pub one_more : (f : ℕ → Actor) (es : List Entry) (old now new : List SeatState) (n : ℕ) (s : SeatState)
     → now ≡ old ++ map (seat_from es) (map f (range_with_len 0 n)) → s ≡ seat_from es (f n) → new ≡ now ++ s ∷ []
     → new ≡ old ++ map (seat_from es) (map f (range_with_len 0 (n + 1)))

@@ -1,4 +1,4 @@
--- The first actor of whom something fails, found one after the other.
+-- The first actor that fails a test, found one actor after the other.
 use Rattle.std.proofs.Common.{◌≡◌, ◌≢◌, ◌<◌, ◌≤◌, ◌+◌, ◌==◌, ℕ, Bool, true, false, true≢false, List, [], ◌∷◌, ◌++◌, All}
 use Rattle.std.proofs.Common.{get_or, length, length-append, zero, suc, take, sym, refl, ap, ◌∙◌, subst, arith, Option}
 use Rattle.std.proofs.Common.{Some, None, MatchBool, IfSome, if◌then◌else◌}
@@ -120,18 +120,18 @@ lacking_more es ss i d found false near h is =
     (λ q. let one : length (of_actor b ss) ≡ 1 = all_here (One ss b) es i d near q.1 refl in eqb-false
     (length (of_actor b ss)) 1 (sym is) one) found h
 
--- all entries were looked at
+-- all entries were tested
 pub looked_at_all : (es : List Entry) (ss : List SeatState) (found : Option Actor)
     → IsFirstNot (λ a. HasPart es ss a × All (λ (e : Entry). e.actor ≡ a → length (of_actor a ss)
     ≡ 1) (take (length es) es)) found → IsFirstNot (Agrees es ss) found
 looked_at_all es ss found h = good (λ a. HasPart es ss a × All (One ss a) (take (length es) es)) (Agrees es ss)
     (λ a q. (q.0, All-take (One ss a) (length es) es q.1)) (λ a p. (p.0, all_of (One ss a) es p.1)) found h
 
--- an entry that is read is the one of its number
+-- an entry that is read is that of its number
 is_read : (es : List Entry) (i : ℕ) (e : Entry) → Some e ≡ slice_get es i → get_or es i e ≡ e
 is_read es i e at = get_or_from_slice_get es i e e (sym at)
 
--- the entries up to i were looked at, and all seats
+-- the entries up to i were tested, and all seats
 abbrev pub Looked : List Entry → List SeatState → ℕ → Actor → Type 0
 Looked es ss i a = HasPart es ss a × All (λ (e : Entry). e.actor ≡ a → length (of_actor a ss) ≡ 1) (take i es)
 
@@ -166,7 +166,7 @@ pub looked_to : (es : List Entry) (ss : List SeatState) (n : ℕ) (found : Optio
 looked_to es ss n found ends h = good (Looked es ss n) (Agrees es ss)
     (λ a q. (q.0, All-take (One ss a) n es q.1)) (λ a p. (p.0, subst (All (One ss a)) (take_all n es ends) p.1)) found h
 
--- nothing was looked at
+-- no entry was tested
 pub looked_none : (es : List Entry) (ss : List SeatState) (found : Option Actor) → IsFirstNot (HasPart es ss) found
     → IsFirstNot (Looked es ss 0) found
 looked_none es ss found h = good (HasPart es ss) (Looked es ss 0) (λ a q. q.0) (λ a p. (p, none a)) found h

@@ -1,4 +1,4 @@
--- Portions of drains: steps of a worker, which enter the history and the list of its seat alike.
+-- Quanta of mark drains: steps of a worker, which enter both the history and its seat's list.
 use Rattle.std.specs.Prelude.{◌≡◌, ◌<◌, ◌≤◌, ℕ, Bool, true, false, List, ◌++◌, length, Some, None, Result, Ok, Err}
 use Rattle.model.specs.declared.steps.Actor.{Actor}
 use Rattle.model.specs.declared.steps.Actor.TheVariants.{Thread, Worker}
@@ -13,7 +13,7 @@ use Rattle.cycle.specs.Loads.{tell}
 use Rattle.cycle.specs.Drains.{drain_within}
 use Rattle.sharing.specs.Seats.{SeatState}
 
--- n entries, by which both the history and the seat's list have grown: n steps of a worker's drain, each accepted
+-- n entries were appended to both the history and the seat's list: n steps of a worker's drain, each accepted
 pub record IsPortion (n worker : ℕ) (seat : SeatState) (old : BookState) (after : SeatState) (new : BookState) : Type 0
   where
     pub steps : List Entry
@@ -22,12 +22,12 @@ pub record IsPortion (n worker : ℕ) (seat : SeatState) (old : BookState) (afte
     pub list : after ≡ record seat { list = seat.list ++ steps }
     pub drained : drain_within n old worker ≡ tell new (replies_to steps)
 
--- what the worker does next is refused
+-- the worker's next step is rejected
 abbrev pub RefusesNext : ℕ → BookState → Refusal → Type 0
 RefusesNext worker b e =
     (step : Step) × (next_drain b.heap worker ≡ Some step) × Acts b (Err e) b (act_outcome b (Worker worker) step)
 
--- A portion of at most so many steps: fewer where nothing is left to be scanned (true), or what comes next is refused.
+-- A quantum of up to n steps: fewer if nothing is grey that no other worker has (true), or the next step is rejected.
 abbrev pub DrainsSome : ℕ → ℕ → Result Bool Refusal → SeatState → BookState → SeatState → BookState → Type 0
 DrainsSome worker most (Ok true) seat old after new =
     (n : ℕ) × (n ≤ most) × IsPortion n worker seat old after new × (next_drain new.heap worker ≡ None)
@@ -35,13 +35,13 @@ DrainsSome worker most (Ok false) seat old after new = IsPortion most worker sea
 DrainsSome worker most (Err e) seat old after new =
     (n : ℕ) × (n < most) × IsPortion n worker seat old after new × RefusesNext worker new e
 
--- a thread does no step that scans: it is refused so
+-- a thread does no step that scans: it is rejected with this error
 abbrev pub IsRefused : ℕ → Result Bool Refusal → SeatState → BookState → SeatState → BookState → Type 0
 IsRefused thread (Ok ended) seat old after new = ⊥
 IsRefused thread (Err e) seat old after new =
     (act_outcome old (Thread thread) steps.ScanField ≡ Err e) × (after ≡ seat) × (new ≡ old)
 
--- what a portion of an actor's drain, of at most so many steps, does to its seat and to a book
+-- the effect of a quantum of an actor's drain, of up to n steps, on its seat and a recorded heap
 abbrev pub Drains : Actor → ℕ → Result Bool Refusal → SeatState → BookState → SeatState → BookState → Type 0
 Drains (Worker w) most result seat old after new = DrainsSome w most result seat old after new
 Drains (Thread t) most result seat old after new = IsRefused t result seat old after new

@@ -1,5 +1,5 @@
-//! A book that threads of the system share (ours). Each actor has a seat with a list of its own of
-//! the steps that were accepted, and `settle` compares these lists with the book's history.
+//! A recorded heap that system threads share. Each actor has a seat with a list of its accepted steps, and `settle`
+//! compares these lists with the history.
 #![tactic(auto)]
 
 mod opening;

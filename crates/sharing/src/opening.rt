@@ -1,4 +1,4 @@
-//! Seats for the actors of a book.
+//! Seats for the actors of a recorded heap.
 
 ghost use Rattle.std.specs.Prelude.{◌≡◌, ◌++◌, map, IfOk, length};
 ghost use Rattle.std.specs.List.{range_with_len};
@@ -10,14 +10,14 @@ use actor_entries::part;
 use cycle::{Actor, Book, History};
 use std::alloc::{AllocError, Global};
 
-/// A seat of an actor, whose list is what the history has of it.
+/// Returns a seat of an actor, whose list is the actor's part of the history. Fails only if out of memory.
 fn seat(alloc: Global, actor: Actor, history: &History) -> Result<Seat, AllocError>
     ensures { IfOk result (λ seat. seat ≡ seat_from history.now.entries actor) }
 {
     Ok(Seat::with(actor, part(alloc, actor, history)?))
 }
 
-/// Seats of so many threads, behind others.
+/// Appends seats of threads, by their number. Fails only if out of memory.
 fn add_threads(
     alloc: Global,
     seats: &mut Vec<Seat>,
@@ -33,7 +33,7 @@ fn add_threads(
     Ok(())
 }
 
-/// Seats of so many workers, behind others.
+/// Appends seats of workers, by their number. Fails only if out of memory.
 fn add_workers(
     alloc: Global,
     seats: &mut Vec<Seat>,
@@ -49,7 +49,7 @@ fn add_workers(
     Ok(())
 }
 
-/// A seat for each actor of a book, threads first.
+/// Returns a seat for each actor of a recorded heap, threads first. Fails only if out of memory.
 pub(crate) fn seats(alloc: Global, book: &Book) -> Result<Vec<Seat>, AllocError>
     ensures { IfOk result (λ seats. seats.items ≡ seats_of book.now) }
 {

@@ -1,4 +1,4 @@
-//! Seats of actors at a book.
+//! Seats of actors of a recorded heap.
 
 ghost use Rattle.std.specs.Prelude.{◌≡◌, ℕ, Err, IfOk};
 ghost use Rattle.cycle.specs.Books.{Acts, act_outcome, is_full};
@@ -16,7 +16,7 @@ use std::alloc::Global;
 use std::marker::Model;
 use std::thread::Threads;
 
-/// An actor, and its own list of its steps that were accepted, with their answers, oldest first.
+/// An actor, and a list of its accepted steps with their answers, oldest first.
 #[derive(Drop)]
 pub struct Seat {
     actor: Actor,
@@ -32,7 +32,7 @@ impl Model for Seat {
     ghost view = { seat_of };
 }
 
-/// Whether the history has as many entries as it may have.
+/// Returns whether the history has as many entries as its limit allows.
 #[tactic(auto, unfolding(cycle::specs::Books::is_full))]
 fn is_full(book: &Book) -> bool
     ensures { result ≡ is_full book.now }
@@ -41,7 +41,8 @@ fn is_full(book: &Book) -> bool
     book.history().len() as u64 >= history
 }
 
-/// Why a step isn't done where memory was refused: the history is full, which is told first.
+/// Returns the error of a step that is out of memory: `HistoryFull` if the history is full, which is tested first,
+/// else `Memory`.
 #[tactic(auto, unfolding(cycle::specs::Books::act_outcome))]
 fn lacking(book: &Book, actor: Actor, step: &Step) -> Refusal
     ensures { Acts book.now (Err result) book.now (act_outcome book.now actor step.now) }
@@ -53,7 +54,8 @@ fn lacking(book: &Book, actor: Actor, step: &Step) -> Refusal
     }
 }
 
-/// Why a thread does no step that scans: the history is full, which is told first.
+/// Returns the error of a step that scans, for a thread: `HistoryFull` if the history is full, which is tested first,
+/// else `NoActor`.
 #[tactic(auto, using(crate::proofs::Growing::full_refused, crate::proofs::Growing::thread_refused))]
 fn no_worker(book: &Book) -> Refusal
     ensures { (t : ℕ) → act_outcome book.now (Thread t) steps.ScanField ≡ Err result }
@@ -66,29 +68,29 @@ fn no_worker(book: &Book) -> Refusal
 }
 
 impl Seat {
-    /// A seat with this list.
+    /// Returns a seat with this list.
     pub(crate) fn with(actor: Actor, list: History) -> Seat
         ensures { result ≡ record { actor = actor; list = list.entries } }
     {
         Seat { actor, list }
     }
 
-    /// Its actor.
+    /// Returns its actor.
     pub fn actor(&self) -> Actor
         ensures { result ≡ self.now.actor }
     {
         self.actor
     }
 
-    /// Its list, oldest first.
+    /// Returns its list, oldest first.
     pub fn list(&self) -> &History
         ensures { result.now.entries ≡ self.now.list }
     {
         &self.list
     }
 
-    /// One step of the seat's actor on a book, as `Book::act` does it. An accepted step enters the
-    /// seat's list too, with its answer; a refused one leaves book and list as they were.
+    /// Does one step of the seat's actor on a recorded heap, as `Book::act` does. An accepted step also enters the
+    /// seat's list, with its answer; a rejected one leaves the recorded heap and the list as they were.
     pub fn act(&mut self, alloc: Global, book: &mut Book, step: Step) -> Reply
         ensures acts { Acts book.old result book.new (act_outcome book.old self.old.actor step) }
         ensures notes { Notes self.old step result self.new }
@@ -104,8 +106,8 @@ impl Seat {
         Ok(answer)
     }
 
-    /// The step that copies the objects of a page, by halves on threads, as `Book::copy_page_by` does
-    /// it. A seat of a thread is refused, as by `act`.
+    /// Does the step that copies the objects of a page, by halves on threads, as `Book::copy_page_by` does. For a
+    /// seat of a thread it is rejected, as by `act`.
     pub(crate) fn copy_page<R: Threads + Sync, G: PieceGate + Sync>(
         &mut self,
         rt: &R,
@@ -124,7 +126,7 @@ impl Seat {
         }
     }
 
-    /// The same of a worker.
+    /// Does the same for a worker.
     fn copy_page_of<R: Threads + Sync, G: PieceGate + Sync>(
         &mut self,
         rt: &R,
@@ -147,13 +149,13 @@ impl Seat {
         Ok(answer)
     }
 
-    /// At most so many steps of a drain (`cycle::next_drain`), each done as `act` does it: the worker
-    /// scans the object that it has, marks the globals that are still to be marked, and picks and scans
-    /// objects, the one with the least address first. True where nothing is left that no other worker
-    /// has; false where so many steps are done, behind which more may be left. The error is why a step
-    /// was refused, as by `act`; those before it are done, and the call may be made again.
+    /// Does up to `most` steps of a drain (`cycle::next_drain`), each as `act` does: the worker scans the object that
+    /// it has picked, marks the grey globals, and picks and scans objects, the one with the least address first.
+    /// Returns true if nothing is grey that no other worker has, and false after `most` steps, after which more may
+    /// be left. Fails as a step of `act` that is rejected; the steps before it are done, and the call may be
+    /// repeated.
     ///
-    /// A seat of a thread is refused, as by `act` for a step that scans.
+    /// For a seat of a thread it fails as `act` does for a step that scans.
     pub fn drain(&mut self, alloc: Global, book: &mut Book, most: u32) -> Result<bool, Refusal>
         ensures { Drains self.old.actor most result self.old book.old self.new book.new }
     {
@@ -163,7 +165,7 @@ impl Seat {
         }
     }
 
-    /// The same of a worker.
+    /// Does the same for a worker.
     fn drain_of(
         &mut self,
         alloc: Global,
@@ -185,9 +187,9 @@ impl Seat {
         Ok(false)
     }
 
-    /// Does up to `most` steps of the seat's actor, each as `act` does it: the next one is decided by
-    /// the heap as the one before it left it. Returns true if there was nothing more to do, false
-    /// after `most` steps, and the error of a refused step that wasn't passed over.
+    /// Does up to `most` steps of the seat's actor, each as `act` does; the heap after a step decides the next one.
+    /// Returns true if there was nothing more to do, and false after `most` steps. Fails as the first rejected step
+    /// whose reply isn't passed over.
     pub fn act_many<S: Steps>(
         &mut self,
         alloc: Global,

@@ -1,4 +1,4 @@
-//! Whether what each actor saw stands in the history.
+//! Whether seats and history agree.
 
 ghost use Rattle.std.specs.Prelude.{◌≡◌, ◌==◌, true, IfErr, IfOk, length};
 ghost use Rattle.model.specs.declared.steps.Actor.{Actor};
@@ -10,23 +10,23 @@ use crate::seat::Seat;
 use actor_entries::{actor_at, is_before, is_part, is_same};
 use cycle::{Actor, Book, History};
 
-/// A book and the seats of its actors, which agree.
+/// A recorded heap and the seats of its actors, which agree.
 #[derive(Drop)]
 pub struct Settled {
-    /// The book, as it came in.
+    /// The recorded heap, unchanged.
     pub book: Book,
-    /// The seats, as they came in.
+    /// The seats, unchanged.
     pub seats: Vec<Seat>,
 }
 
-/// The first actor, threads before workers, on whom the seats and the history disagree.
+/// The first actor, threads before workers, for whom the seats and the history disagree.
 #[derive(Clone, Copy, Debug, PartialEq, Eq)]
 pub struct Stray {
     /// The actor.
     pub actor: Actor,
 }
 
-/// Whether an actor has one seat and no other.
+/// Returns whether an actor has exactly one seat.
 fn has_one(seats: &[Seat], actor: Actor) -> bool
     ensures { result ≡ (length (of_actor actor seats.now) == 1) }
 {
@@ -39,7 +39,7 @@ fn has_one(seats: &[Seat], actor: Actor) -> bool
     count == 1
 }
 
-/// The earlier of two actors.
+/// Returns the earlier of two actors.
 fn earlier(a: Option<Actor>, b: Actor) -> Option<Actor>
     ensures { result ≡ earlier a b }
 {
@@ -49,14 +49,14 @@ fn earlier(a: Option<Actor>, b: Actor) -> Option<Actor>
     }
 }
 
-/// The first actor so far, after a further one was looked at.
+/// Returns the first actor for whom a test failed, after one more was tested.
 fn noted(found: Option<Actor>, actor: Actor, fine: bool) -> Option<Actor>
     ensures { result ≡ noted found actor fine }
 {
     if fine { found } else { earlier(found, actor) }
 }
 
-/// The first actor of whom a seat's list isn't what the history has of it.
+/// Returns the first actor of a seat whose list isn't its part of the history.
 #[tactic(auto, using(crate::proofs::Settles::wrong_more, crate::proofs::Settles::all_of))]
 fn first_wrong(history: &History, seats: &[Seat]) -> Option<Actor>
     ensures { IsFirstNot (HasPart history.now.entries seats.now) result }
@@ -69,7 +69,7 @@ fn first_wrong(history: &History, seats: &[Seat]) -> Option<Actor>
     found
 }
 
-/// The first actor of these and of those in the history that haven't one seat.
+/// Returns the first actor of `before` and of those in the history that haven't exactly one seat.
 fn first_lacking(history: &History, seats: &[Seat], before: Option<Actor>) -> Option<Actor>
     requires { IsFirstNot (HasPart history.now.entries seats.now) before }
     ensures { IsFirstNot (Agrees history.now.entries seats.now) result }
@@ -83,7 +83,7 @@ fn first_lacking(history: &History, seats: &[Seat], before: Option<Actor>) -> Op
     found
 }
 
-/// The first actor on whom the seats and the history disagree.
+/// Returns the first actor for whom the seats and the history disagree.
 fn first_stray(history: &History, seats: &[Seat]) -> Option<Actor>
     ensures { IsFirstNot (Agrees history.now.entries seats.now) result }
 {
@@ -91,9 +91,8 @@ fn first_stray(history: &History, seats: &[Seat]) -> Option<Actor>
     first_lacking(history, seats, wrong)
 }
 
-/// The book and the seats as they came in, where each actor of the history has one seat, and each
-/// seat's list is what the history has of its actor, in order; else the first actor for whom this
-/// fails. It takes no memory.
+/// Returns the recorded heap and the seats unchanged if each actor of the history has exactly one seat, and each
+/// seat's list is its actor's part of the history; else the first actor for whom this fails. It allocates nothing.
 pub fn settle(book: Book, seats: Vec<Seat>) -> Result<Settled, Stray>
     ensures same { IfOk result (λ s. (s.book ≡ book) × (s.seats.items ≡ seats.items)) }
     ensures settled { IfOk result (λ s. AreSettled s.book.history s.seats.items) }
@@ -102,7 +101,7 @@ pub fn settle(book: Book, seats: Vec<Seat>) -> Result<Settled, Stray>
 {
     match first_stray(book.history(), seats.as_slice()) {
         Some(actor) => {
-            // (by a call: what goes out of scope is let go in the steps of this function, which are proved)
+            // (by a call: at the end of a scope values are freed in the steps of this function, which are proved)
             drop(seats);
             drop(book);
             Err(Stray { actor })

@@ -1,4 +1,4 @@
-//! A book that threads share.
+//! A recorded heap that threads share.
 
 ghost use Rattle.std.specs.Prelude.{◌≡◌, IfErr, IfOk};
 ghost use Rattle.std.specs.Fn.{FnOnceReturnsAt, FnOnceTakesAt};
@@ -21,7 +21,7 @@ use std::alloc::Global;
 use std::sync::{Condvar, Mutex, Wait};
 use std::thread::Threads;
 
-/// What lies under the lock.
+/// What the lock guards.
 #[derive(Drop)]
 struct Desk {
     book: Book,
@@ -29,7 +29,7 @@ struct Desk {
 }
 
 impl Desk {
-    /// A step that may be asked for again.
+    /// Does a step by a copy of it, so that it may be tried again.
     fn attempt(&mut self, alloc: Global, seat: &mut Seat, step: &Step) -> Reply
         ensures { Notes seat.old step.now result seat.new }
     {
@@ -40,17 +40,17 @@ impl Desk {
     }
 }
 
-/// A gate that holds no piece.
+/// A gate that does nothing.
 struct NoGate;
 
 impl PieceGate for NoGate {
     fn begin(&self, _piece: u32) {}
 }
 
-/// A book under a lock, on which each actor acts by its seat.
+/// A recorded heap under a lock, on which each actor acts by its seat.
 ///
-/// A step is one hold of the lock, and so is a portion of a drain. What the book holds is what `Book`
-/// promises each time.
+/// A step takes the lock once, and so does a quantum of a drain. The recorded heap keeps the promises of `Book` each
+/// time.
 #[derive(Drop)]
 pub struct Shared {
     desk: Mutex<Desk>,
@@ -59,8 +59,8 @@ pub struct Shared {
 }
 
 impl Shared {
-    /// A book that threads share, and a seat for each actor, threads first, whose list is what the
-    /// history has of it. Where memory was refused, the book comes back.
+    /// Shares a recorded heap. Returns it with a seat for each actor, threads first, whose list is the actor's part
+    /// of the history. Returns the recorded heap as an error if out of memory.
     pub fn open(alloc: Global, book: Book) -> Result<(Shared, Vec<Seat>), Book>
         ensures seats { IfOk result (λ opened. opened.1.items ≡ seats_of book) }
         ensures back { IfErr result (λ back. back ≡ book) }
@@ -71,7 +71,7 @@ impl Shared {
         }
     }
 
-    /// A book under a lock.
+    /// Returns a recorded heap under a lock.
     fn over(alloc: Global, book: Book) -> Shared {
         Shared {
             desk: Mutex::new(Desk {
@@ -83,8 +83,8 @@ impl Shared {
         }
     }
 
-    /// One step of the seat's actor, under one hold of the lock, as `Seat::act` does it. An accepted
-    /// step wakes all that wait.
+    /// Does one step of the seat's actor, under one hold of the lock, as `Seat::act` does. An accepted step wakes all
+    /// that wait.
     pub fn step<R: Wait>(&self, rt: &R, seat: &mut Seat, step: Step) -> Reply
         ensures { Notes seat.old step result seat.new }
     {
@@ -97,15 +97,15 @@ impl Shared {
         reply
     }
 
-    /// As `step`, but where it is refused as `Stall`, it waits for another step, and asks again,
-    /// until `stop` was called: then it answers that `Stall`.
+    /// Does a step as `step` does; but if it fails with `Stall`, waits for another step and tries again, until `stop`
+    /// was called: then it returns that `Stall`.
     pub fn step_wait<R: Wait>(&self, rt: &R, seat: &mut Seat, step: Step) -> Reply
         ensures { Notes seat.old step result seat.new }
     {
         self.ask(rt, seat, &step)
     }
 
-    /// As `step_wait`, by a step that is lent.
+    /// Does what `step_wait` does, by a borrowed step.
     pub fn ask<R: Wait>(&self, rt: &R, seat: &mut Seat, step: &Step) -> Reply
         ensures { Notes seat.old step.now result seat.new }
     {
@@ -125,8 +125,8 @@ impl Shared {
         unreachable!()
     }
 
-    /// The step that copies the objects of a page, by halves on threads to a depth (above 4 counts as
-    /// 4), under one hold of the lock; else as `step`. It waits for the threads.
+    /// Does the step that copies the objects of a page, by halves on threads to a depth (above 4 counts as 4), under
+    /// one hold of the lock; else it is as `step`. It waits for the threads.
     pub fn copy_page<R: Threads + Wait + Sync>(
         &self,
         rt: &R,
@@ -145,8 +145,8 @@ impl Shared {
         reply
     }
 
-    /// At most so many steps of a drain, as `Seat::drain` does them, under one hold of the lock. Where it
-    /// has done a step, it wakes all that wait.
+    /// Does up to `most` steps of a drain, as `Seat::drain` does, under one hold of the lock. Wakes all that wait if
+    /// it has done a step.
     pub fn drain<R: Wait>(&self, rt: &R, seat: &mut Seat, most: u32) -> Result<bool, Refusal>
         ensures { (b : BookState) × (c : BookState) × IsBook b
             × Drains seat.old.actor most result seat.old b seat.new c }
@@ -162,8 +162,8 @@ impl Shared {
         end
     }
 
-    /// Does up to `most` steps of the seat's actor, as `Seat::act_many` does them, under one hold of
-    /// the lock. Wakes all that wait if a step was accepted.
+    /// Does up to `most` steps of the seat's actor, as `Seat::act_many` does, under one hold of the lock. Wakes all
+    /// that wait if a step was accepted.
     pub fn act_many<R: Wait, S: Steps>(
         &self,
         rt: &R,
@@ -184,19 +184,19 @@ impl Shared {
         end
     }
 
-    /// Ends all waits, and changes neither the book nor a list.
+    /// Ends all waits. Changes neither the recorded heap nor a list.
     pub fn stop<R: Wait>(&self, rt: &R) {
         self.desk.lock(rt).stopped = true;
         self.changed.notify_all();
     }
 
-    /// Whether `stop` was called.
+    /// Returns whether `stop` was called.
     pub fn is_stopped<R: Wait>(&self, rt: &R) -> bool {
         self.desk.lock(rt).stopped
     }
 
-    /// What `f` says of the heap, which is lent to it for reading under one hold of the lock. What
-    /// it found may be old when the next step comes.
+    /// Returns the result of `f` on the heap, which `f` may read under one hold of the lock. Later steps may change
+    /// what it found.
     pub fn look<R: Wait, F: FnOnce(&Heap) -> T, T>(&self, rt: &R, f: F) -> T
         requires { (h : HeapState) → FnOnceTakesAt F.FnOnce f h }
         ensures { (b : BookState) × IsBook b × FnOnceReturnsAt F.FnOnce f b.heap result }
@@ -206,8 +206,8 @@ impl Shared {
         f(desk.book.heap())
     }
 
-    /// The book, once no thread shares it: its history is one of one thread, and each answer in it
-    /// is the plain heap's at its place.
+    /// Returns the recorded heap, once no thread shares it: its history is one of one thread, and each answer in it
+    /// is the reference model's at its place.
     pub fn into_book(self) -> Book
         ensures book { IsBook result }
         ensures promises { KeepsPromises result }

@@ -36,7 +36,7 @@ pub const KINDS: [&str; 30] = [
     "CopyPage",
 ];
 
-/// The number of the kind of a thread's step; of a worker's, that of none.
+/// Returns the number of the kind of a thread's step; for a worker's, that of none.
 fn thread_kind(step: &Step) -> usize {
     match step {
         Step::Take(_) => 0,
@@ -63,7 +63,7 @@ fn thread_kind(step: &Step) -> usize {
     }
 }
 
-/// The number of the kind of a step.
+/// Returns the number of the kind of a step.
 pub fn kind_of(step: &Step) -> usize {
     match step {
         Step::StartMark => 20,
@@ -80,14 +80,14 @@ pub fn kind_of(step: &Step) -> usize {
     }
 }
 
-/// What a drive has come to.
+/// The counts of a drive.
 #[derive(Drop)]
 pub struct Counts {
     /// How many steps of each kind were accepted.
     pub accepted: [u64; 30],
-    /// How many steps were refused.
+    /// How many steps were rejected.
     pub refused: u64,
-    /// How many traps have moved a word.
+    /// How many traps have corrected a reference.
     pub moved: u64,
     /// How many heals have found their place changed.
     pub changed: u64,
@@ -95,13 +95,13 @@ pub struct Counts {
     pub verified: u64,
 }
 
-/// One more.
+/// Increments a count.
 pub fn count(number: &mut u64) {
     *number = number.saturating_add(1);
 }
 
 impl Counts {
-    /// Nothing was done.
+    /// Returns counts of 0.
     pub fn new() -> Counts {
         Counts {
             accepted: [0; 30],
@@ -112,7 +112,7 @@ impl Counts {
         }
     }
 
-    /// A step of a kind had this reply.
+    /// Counts a step of a kind by its reply.
     pub fn enter(&mut self, kind: usize, reply: Reply) {
         if reply.is_err() {
             count(&mut self.refused);

@@ -1,5 +1,5 @@
-//! What a driver asks of a heap. Nothing is promised here: a loop that held a `Heap` or a `Book` itself
-//! would carry all that each of its steps promises through its proof.
+//! The calls of a driver on a heap. They have no contracts: the proof of a loop over a `Heap` or a `Book` itself
+//! would include all promises of each step.
 
 use cycle::Stepping;
 use heap::Heap;
@@ -7,15 +7,15 @@ use pauseless::{Actor, Book, Reply, Step, Verdict, verify};
 use script_check::verify_book;
 use std::alloc::{AllocError, Global};
 
-/// A heap that is driven, or a book, which keeps the history of it.
+/// A heap that is driven, or a recorded heap.
 pub trait Driven {
-    /// A step of an actor. A refused step changes nothing.
+    /// Does a step of an actor. A rejected step changes nothing.
     fn act(&mut self, actor: Actor, step: Step) -> Reply;
 
-    /// The heap as it stands.
+    /// Returns the current heap.
     fn heap(&self) -> &Heap;
 
-    /// What the verifier says of it.
+    /// Returns the verifier's verdict.
     fn verdict(&self, alloc: Global) -> Result<Verdict, AllocError>;
 }
 

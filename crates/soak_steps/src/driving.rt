@@ -1,4 +1,4 @@
-//! Steps at random, one after another: half of them are of threads, and half of workers.
+//! Random steps, one after another: half of them are of threads, and half of workers.
 
 use crate::counts::{Counts, count, kind_of};
 use crate::driven::Driven;
@@ -15,17 +15,17 @@ use test_support_samples::Dice;
 /// How long a heap is driven, and how.
 #[derive(Clone, Copy)]
 pub struct Drive {
-    /// How threads and workers go on.
+    /// The habits of threads and workers.
     pub habits: Habits,
-    /// Where the random numbers begin.
+    /// The seed of the random numbers.
     pub seed: u64,
-    /// How many steps are asked for, accepted or not.
+    /// How many steps are tried, accepted or not.
     pub steps: u32,
-    /// The heap is verified after each accepted step, or each time after so many.
+    /// The heap is verified after each `every` accepted steps.
     pub every: u32,
 }
 
-/// Who does the next step, and which one.
+/// Returns the next step and its actor.
 fn next(
     alloc: Global,
     heap: &Heap,
@@ -42,7 +42,7 @@ fn next(
     Ok((Actor::Worker(worker), step))
 }
 
-/// The heap is verified; anything but Sound is an error.
+/// Verifies the heap. Fails for any verdict but `Sound`.
 fn look(alloc: Global, driven: &impl Driven, counts: &mut Counts) -> Result<()> {
     match driven.verdict(alloc)? {
         Verdict::Sound => {
@@ -53,7 +53,7 @@ fn look(alloc: Global, driven: &impl Driven, counts: &mut Counts) -> Result<()> 
     }
 }
 
-/// The next step. Whether it was accepted.
+/// Does the next step. Returns whether it was accepted.
 fn step(
     alloc: Global,
     driven: &mut impl Driven,
@@ -68,7 +68,7 @@ fn step(
     Ok(reply.is_ok())
 }
 
-/// All steps of a drive. What they have come to; an error where the verifier finds a fault.
+/// Does all steps of a drive. Returns the counts. Fails if the verifier finds a fault.
 pub fn goes(alloc: Global, driven: &mut impl Driven, drive: Drive) -> Result<Counts> {
     let mut dice = Dice::new(drive.seed);
     let mut counts = Counts::new();

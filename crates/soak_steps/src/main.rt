@@ -1,5 +1,5 @@
-//! Drives heaps by random steps, which the verifier looks at: half of them are of threads, with random
-//! operands, and half of workers, in a cycle without end. It can also allocate objects that are garbage at once.
+//! Drives heaps by random steps, and verifies them: half of the steps are of threads, with random operands, and half
+//! of workers, in endless cycles. It can also allocate garbage objects.
 //!
 //! | Words | Effect |
 //! |---|---|
@@ -35,12 +35,12 @@ use heap::Heap;
 use pauseless::{Book, Config};
 use std::alloc::Global;
 
-/// Drives what is handed in.
+/// Drives a heap or a recorded heap.
 fn drives(alloc: Global, mut driven: impl Driven + Drop, how: Drive) -> Result<Counts> {
     goes(alloc, &mut driven, how)
 }
 
-/// Drives a new book of a configuration.
+/// Drives a new recorded heap of a configuration.
 fn by_book(alloc: Global, config: Config, how: Drive) -> Result<Counts> {
     drives(alloc, Book::new(alloc, config)?, how)
 }
@@ -50,7 +50,7 @@ fn by_heap(alloc: Global, config: Config, how: Drive) -> Result<Counts> {
     drives(alloc, Heap::new(alloc, config)?, how)
 }
 
-/// Makes so many objects that nobody keeps, and prints what has come of it.
+/// Allocates `objects` garbage objects, and prints the result.
 fn waste<R: Print>(rt: &R, alloc: Global, objects: u32) -> Result<()> {
     let count = objects / 4;
     let number = waste_in_each(alloc, u64::from(count))?;
@@ -58,7 +58,7 @@ fn waste<R: Print>(rt: &R, alloc: Global, objects: u32) -> Result<()> {
     Ok(())
 }
 
-/// Drives a heap, and prints what it has come to.
+/// Drives a heap, and prints the counts.
 fn drive<R: Print>(rt: &R, alloc: Global, work: &Work) -> Result<()> {
     let [seed, steps, every, all, _] = work.numbers;
     let Some((config, habits)) = setup(alloc, work.name.as_str())? else {

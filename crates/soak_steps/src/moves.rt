@@ -6,7 +6,7 @@ use heap::Heap;
 use pauseless::{Config, Step};
 use test_support_samples::Dice;
 
-/// What a thread is about.
+/// The state of a thread.
 #[derive(Clone, Copy)]
 struct Stance {
     is_loading: bool,
@@ -15,7 +15,7 @@ struct Stance {
     has_buffer: bool,
 }
 
-/// What a thread of a heap is about.
+/// Returns the state of a thread of a heap.
 fn stance_of(heap: &Heap, thread: u32) -> Stance {
     match heap.threads().get(thread as usize) {
         None => Stance {
@@ -33,7 +33,7 @@ fn stance_of(heap: &Heap, thread: u32) -> Stance {
     }
 }
 
-/// A load that is open goes on.
+/// Returns a step that continues an open load.
 fn in_a_load(dice: &mut Dice) -> Step {
     match dice.roll(6) {
         0 | 1 | 2 => Step::Trap,
@@ -42,12 +42,12 @@ fn in_a_load(dice: &mut Dice) -> Step {
     }
 }
 
-/// The number of a field or of a datum: often the first.
+/// Returns the number of a field or of a datum: often the first.
 fn place(dice: &mut Dice) -> u32 {
     if dice.hits(2) { 0 } else { index(dice, 6) }
 }
 
-/// A step on a field or a datum of an object, or on a global, with random operands.
+/// Returns a step on a field or a datum of an object, or on a global, with random operands.
 fn on_memory(dice: &mut Dice, config: &Config) -> Step {
     let (target, object, source) = registers(dice, config);
     let global = index(dice, config.globals);
@@ -78,7 +78,7 @@ fn on_memory(dice: &mut Dice, config: &Config) -> Step {
     }
 }
 
-/// Three numbers of registers.
+/// Returns three numbers of registers.
 fn registers(dice: &mut Dice, config: &Config) -> (u32, u32, u32) {
     let first = index(dice, config.registers);
     let second = index(dice, config.registers);
@@ -86,7 +86,7 @@ fn registers(dice: &mut Dice, config: &Config) -> (u32, u32, u32) {
     (first, second, third)
 }
 
-/// A step on registers alone, with random operands.
+/// Returns a step on registers alone, with random operands.
 fn on_registers(dice: &mut Dice, config: &Config) -> Step {
     let (target, left, right) = registers(dice, config);
     match dice.roll(8) {
@@ -101,7 +101,7 @@ fn on_registers(dice: &mut Dice, config: &Config) -> Step {
     }
 }
 
-/// How large a buffer is to be: often a whole page, and one in sixteen is too large, or none.
+/// Returns the size of a buffer: often a complete page; one in sixteen is too large, or 0.
 fn size(dice: &mut Dice, config: &Config) -> u32 {
     if dice.hits(2) {
         return config.words;
@@ -109,7 +109,7 @@ fn size(dice: &mut Dice, config: &Config) -> u32 {
     index(dice, config.words).saturating_add(1)
 }
 
-/// An object is born, or memory is taken for it or given back, with random operands.
+/// Returns a step that allocates an object, or takes a buffer for it or gives it back, with random operands.
 fn births(dice: &mut Dice, config: &Config, has_buffer: bool) -> Step {
     let target = index(dice, config.registers);
     let layout = index(dice, small(config.layouts.as_slice().len()));
@@ -121,7 +121,7 @@ fn births(dice: &mut Dice, config: &Config, has_buffer: bool) -> Step {
     }
 }
 
-/// A step of which the thread may be in no state to do it.
+/// Returns a step that the thread may be in no state to do.
 fn nonsense(dice: &mut Dice) -> Step {
     match dice.roll(8) {
         0 => Step::Trap,
@@ -135,7 +135,7 @@ fn nonsense(dice: &mut Dice) -> Step {
     }
 }
 
-/// Any step, with random operands.
+/// Returns any step, with random operands.
 fn any(dice: &mut Dice, config: &Config, habits: Habits, has_buffer: bool) -> Step {
     if dice.roll(64) == 0 {
         return Step::Park;
@@ -150,8 +150,8 @@ fn any(dice: &mut Dice, config: &Config, habits: Habits, has_buffer: bool) -> St
     }
 }
 
-/// The next step of a thread: one in a load goes on with it, an uncrossed one crosses, a parked one
-/// wakes soon, and any other does a random step.
+/// Returns the next step of a thread: one in a load continues it, an uncrossed one crosses, a parked one soon
+/// unparks, and any other does a random step.
 pub fn next_move(heap: &Heap, thread: u32, dice: &mut Dice, habits: Habits) -> Step {
     let own = stance_of(heap, thread);
     if own.is_loading {

@@ -2,7 +2,7 @@
 
 use test_support_samples::Dice;
 
-/// Mostly a number below a count, but one in sixteen may name nothing.
+/// Returns mostly a number below a count, but one in sixteen may name nothing.
 pub fn index(dice: &mut Dice, count: u32) -> u32 {
     if count == 0 || dice.hits(16) {
         let number = dice.roll(u64::from(count).saturating_add(2));
@@ -12,7 +12,7 @@ pub fn index(dice: &mut Dice, count: u32) -> u32 {
     }
 }
 
-/// A number below a count; 0 where that is 0.
+/// Returns a number below a count; 0 if that is 0.
 pub fn below(dice: &mut Dice, count: u32) -> u32 {
     if count == 0 {
         return 0;
@@ -20,7 +20,7 @@ pub fn below(dice: &mut Dice, count: u32) -> u32 {
     dice.roll(u64::from(count)) as u32
 }
 
-/// A count as a number of 32 bits.
+/// Returns a count as a number of 32 bits.
 pub fn small(number: usize) -> u32 {
     u32::try_from(number).unwrap_or(u32::MAX)
 }

@@ -6,29 +6,29 @@ use std::alloc::{AllocError, Global};
 /// How a heap is driven.
 #[derive(Clone, Copy)]
 pub struct Habits {
-    /// An uncrossed thread that has no load open crosses: at once, or in one step of so many.
+    /// An uncrossed thread without an open load crosses with one step in this many; 1 is at once.
     pub lateness: u64,
-    /// Pages are copied whole too, and marks start while objects have still to be copied.
+    /// Pages are also copied by one step, and marks start while objects are uncopied.
     pub rolls: bool,
-    /// One step in so many is of no use where it is asked: it may be refused for any cause.
+    /// One step in this many is nonsense: it may be rejected with any error.
     pub nonsense: u64,
 }
 
-/// Each thread crosses at once, entries are copied one by one, and a mark starts behind the last copy.
+/// Each thread crosses at once, entries are copied one by one, and a mark starts after the last copy.
 const PLAIN: Habits = Habits {
     lateness: 1,
     rolls: false,
     nonsense: 64,
 };
 
-/// Threads go on before they cross, pages are copied whole too, and marks start while objects move.
+/// Threads continue before they cross, pages are also copied by one step, and marks start while objects move.
 const ROLLING: Habits = Habits {
     lateness: 2,
     rolls: true,
     nonsense: 16,
 };
 
-/// Objects of so many references and data each.
+/// Returns layouts with these numbers of references and data.
 fn layouts(alloc: Global, fields: &[(u16, u16)]) -> Result<Layouts, AllocError> {
     let mut layouts = Vec::with_capacity(alloc, fields.len())?;
     for (refs, nums) in fields.iter().copied() {
@@ -37,8 +37,8 @@ fn layouts(alloc: Global, fields: &[(u16, u16)]) -> Result<Layouts, AllocError> 
     Ok(Layouts::new(layouts))
 }
 
-/// A heap of so many words a page, frames and page numbers, of so many threads, workers, registers and
-/// globals, whose births and entries have the highest limits.
+/// Returns a configuration with this number of words a page, frames, page numbers, threads, workers, registers and
+/// globals, and the greatest limits of births and entries.
 fn config(sizes: [u32; 7], layouts: Layouts) -> Config {
     let [words, frames, pages, threads, workers, registers, globals] = sizes;
     Config {
@@ -55,7 +55,7 @@ fn config(sizes: [u32; 7], layouts: Layouts) -> Config {
     }
 }
 
-/// The heap of the examples of the rules: three frames of 16 words, and objects of three.
+/// The heap of the documents' examples: three frames of 16 words, and objects of three.
 fn rows(alloc: Global) -> Result<Config, AllocError> {
     Ok(config([16, 3, 8, 2, 1, 4, 1], layouts(alloc, &[(1, 1)])?))
 }
@@ -71,7 +71,7 @@ fn several(alloc: Global) -> Result<Config, AllocError> {
     Ok(config([64, 12, 40, 4, 3, 6, 4], layouts(alloc, &fields)?))
 }
 
-/// Pages whose rows of bits have many words, so side arrays of more than a hundred entries.
+/// Pages whose bitmaps have many words, and so forwarding tables of more than a hundred entries.
 fn long(alloc: Global) -> Result<Config, AllocError> {
     let fields = [(1, 1), (2, 0), (30, 20)];
     Ok(config([1024, 8, 12, 3, 2, 8, 2], layouts(alloc, &fields)?))
@@ -83,7 +83,7 @@ fn many(alloc: Global) -> Result<Config, AllocError> {
     Ok(config([32, 24, 40, 6, 4, 12, 8], layouts(alloc, &fields)?))
 }
 
-/// A heap by its name, and how it is driven; nothing where no heap has the name.
+/// Returns a heap by its name, and how it is driven; `None` if no heap has the name.
 pub fn setup(alloc: Global, name: &str) -> Result<Option<(Config, Habits)>, AllocError> {
     Ok(Some(match name {
         "rows" => (rows(alloc)?, PLAIN),

@@ -1,4 +1,4 @@
-//! What a drive has come to.
+//! Reporting the counts of a drive.
 
 use crate::counts::{Counts, KINDS};
 use crate::setups::Habits;
@@ -16,8 +16,7 @@ pub fn tell<R: Print>(rt: &R, counts: &Counts) -> Result<()> {
     Ok(())
 }
 
-/// An error where a kind of step was never accepted. Whole pages are copied only where it is so that
-/// marks roll on.
+/// Fails if a kind of step was never accepted. Pages are copied by one step only with the habit `rolls`.
 fn missing_kind(counts: &Counts, habits: Habits) -> Result<()> {
     for (name, accepted) in KINDS.iter().zip(counts.accepted.iter()) {
         if *accepted == 0 && (habits.rolls || *name != "CopyPage") {
@@ -27,7 +26,7 @@ fn missing_kind(counts: &Counts, habits: Habits) -> Result<()> {
     Ok(())
 }
 
-/// An error where something never came up.
+/// Fails if something never occurred.
 pub fn misses(counts: &Counts, habits: Habits) -> Result<()> {
     missing_kind(counts, habits)?;
     if counts.moved == 0 {

@@ -1,4 +1,4 @@
-//! The steps of workers: those of a cycle without end.
+//! The steps of workers, in endless cycles.
 
 use crate::numbers::{index, small};
 use crate::setups::Habits;
@@ -8,7 +8,7 @@ use pauseless::{PageList, Step, choose, next_drain};
 use std::alloc::{AllocError, Global};
 use test_support_samples::Dice;
 
-/// A mark ends; now and then pages are to be emptied first: those that have been chosen.
+/// Returns `Protect` for the chosen pages; `StartMark` if there are none, and one time in eight.
 fn idle(alloc: Global, heap: &Heap, dice: &mut Dice) -> Result<Step, AllocError> {
     let percent = if dice.hits(4) {
         dice.roll(100) as u32
@@ -22,7 +22,7 @@ fn idle(alloc: Global, heap: &Heap, dice: &mut Dice) -> Result<Step, AllocError>
     Ok(Step::Protect(PageList::new(pages)))
 }
 
-/// The first thread that hasn't crossed is crossed, if it is parked.
+/// Returns `CrossFor` for the first thread that hasn't crossed, which is accepted if it is parked.
 fn crossing(heap: &Heap) -> Step {
     let behind = heap
         .threads()
@@ -31,7 +31,7 @@ fn crossing(heap: &Heap) -> Step {
     Step::CrossFor(small(behind.unwrap_or(0)))
 }
 
-/// The first page that is protected and has its memory, by its number from 1.
+/// Returns the first protected page that has its memory, by its number from 1.
 fn protected(heap: &Heap) -> Option<u32> {
     let place = heap
         .memory()
@@ -41,7 +41,7 @@ fn protected(heap: &Heap) -> Option<u32> {
     Some(small(place).saturating_add(1))
 }
 
-/// The first entry of a page that isn't copied.
+/// Returns the first uncopied entry of a page.
 fn uncopied(heap: &Heap, page: u32) -> Option<u32> {
     for number in 0..heap.sides().count_on(page) {
         if let Some(entry) = heap.sides().entry_on(page, number) {
@@ -53,7 +53,7 @@ fn uncopied(heap: &Heap, page: u32) -> Option<u32> {
     None
 }
 
-/// A copy on the first protected page, or its release; else a mark starts.
+/// Returns a copy on the first protected page, or its release; else `StartMark`.
 fn copying(heap: &Heap, dice: &mut Dice, habits: Habits) -> Step {
     let Some(page) = protected(heap) else {
         return Step::StartMark;
@@ -65,7 +65,7 @@ fn copying(heap: &Heap, dice: &mut Dice, habits: Habits) -> Step {
     }
 }
 
-/// What moves objects; a mark may start before all are copied.
+/// Returns a step that copies objects, or `StartMark` before all are copied.
 fn relocating(heap: &Heap, dice: &mut Dice, habits: Habits) -> Step {
     if habits.rolls && dice.roll(8) == 0 {
         return Step::StartMark;
@@ -73,7 +73,7 @@ fn relocating(heap: &Heap, dice: &mut Dice, habits: Habits) -> Step {
     copying(heap, dice, habits)
 }
 
-/// The next step of a mark, or its end. Objects may move meanwhile.
+/// Returns the next step of a mark, or its end; objects may be copied meanwhile.
 fn scanning(heap: &Heap, worker: u32, dice: &mut Dice, habits: Habits) -> Step {
     if habits.rolls && dice.roll(8) == 0 {
         return copying(heap, dice, habits);
@@ -81,7 +81,7 @@ fn scanning(heap: &Heap, worker: u32, dice: &mut Dice, habits: Habits) -> Step {
     next_drain(heap, worker).unwrap_or(Step::EndMark)
 }
 
-/// A step of which the worker may be in no state to do it.
+/// Returns a step that the worker may be in no state to do.
 fn nonsense(dice: &mut Dice, heap: &Heap) -> Step {
     let page = index(dice, heap.config().pages);
     let offset = index(dice, heap.config().words);
@@ -102,8 +102,8 @@ fn nonsense(dice: &mut Dice, heap: &Heap) -> Step {
     }
 }
 
-/// The next step of a worker in a cycle without end: a mark, whose scan is drained; then pages are
-/// emptied, and given up; and so on. The error is want of memory.
+/// Returns the next step of a worker in endless cycles: a mark, whose scan is drained; then pages are emptied and
+/// released; and so on. Fails only if out of memory.
 pub fn next_work(
     alloc: Global,
     heap: &Heap,

@@ -1,4 +1,4 @@
-//! Objects that nobody keeps, in the smallest heaps: these are collected as it goes, and are never full.
+//! Garbage objects in the smallest heaps, which are collected meanwhile, and are never full.
 //!
 //! | Frames | Pages | Words of a page | Kept |
 //! |---|---|---|---|
@@ -25,7 +25,7 @@ const WORDS: u32 = 16;
 /// A number that is kept.
 const NUMBER: u64 = 4711;
 
-/// A heap of so many frames and pages.
+/// Returns a heap of this number of frames and pages.
 fn new_heap(alloc: Global, frames: u32, pages: u32) -> Result<ManagedHeap> {
     let layouts = Layouts::new(vec![in alloc; Layout { refs: 1, nums: 1 }]?);
     let mut config = Config::new(WORDS, frames, layouts);
@@ -33,7 +33,7 @@ fn new_heap(alloc: Global, frames: u32, pages: u32) -> Result<ManagedHeap> {
     Ok(ManagedHeap::new(alloc, config)?)
 }
 
-/// Makes so many objects that nobody keeps, not even in a register.
+/// Allocates `count` garbage objects, not even kept in a register.
 fn waste_all(
     alloc: Global,
     mut heap: impl Holding + Drop,
@@ -47,7 +47,7 @@ fn waste_all(
     Ok(())
 }
 
-/// Makes so many objects that nobody keeps, but for the last one.
+/// Allocates `count` garbage objects, except the last one.
 fn waste(alloc: Global, heap: &mut impl Holding, policy: Policy, count: u64) -> Result<()> {
     for _ in 0..count {
         heap.make(alloc, policy, ME, LOST, 0)?;
@@ -55,7 +55,7 @@ fn waste(alloc: Global, heap: &mut impl Holding, policy: Policy, count: u64) -> 
     Ok(())
 }
 
-/// The same in a heap that is let go then.
+/// Does the same in a heap that is freed then.
 fn waste_last(
     alloc: Global,
     mut heap: impl Holding + Drop,
@@ -65,7 +65,7 @@ fn waste_last(
     waste(alloc, &mut heap, policy, count)
 }
 
-/// The same in a heap of one frame and so many pages, where not even the last one is kept.
+/// Does the same in a heap of one frame and `pages` pages, where not even the last one is kept.
 fn waste_in_one(alloc: Global, pages: u32, count: u64) -> Result<()> {
     waste_all(
         alloc,
@@ -75,7 +75,7 @@ fn waste_in_one(alloc: Global, pages: u32, count: u64) -> Result<()> {
     )
 }
 
-/// The same in a heap of two frames and two pages.
+/// Does the same in a heap of two frames and two pages.
 fn waste_in_two(alloc: Global, count: u64) -> Result<()> {
     waste_last(
         alloc,
@@ -85,7 +85,7 @@ fn waste_in_two(alloc: Global, count: u64) -> Result<()> {
     )
 }
 
-/// The same in a heap that keeps one object. Gives the number in it at the end.
+/// Does the same in a heap that keeps one object. Returns the number in it at the end.
 fn keep_one(
     alloc: Global,
     mut heap: impl Holding + Drop,
@@ -98,7 +98,7 @@ fn keep_one(
     Ok(heap.datum(ME, KEPT, 0)?)
 }
 
-/// The same in a heap of three frames and six pages, which keeps one object.
+/// Does the same in a heap of three frames and six pages, which keeps one object.
 fn keep_in_three(alloc: Global, count: u64) -> Result<u64> {
     keep_one(
         alloc,
@@ -108,7 +108,7 @@ fn keep_in_three(alloc: Global, count: u64) -> Result<u64> {
     )
 }
 
-/// Makes so many objects in each of the four heaps. Gives the number that one of them keeps.
+/// Allocates `count` objects in each of the four heaps. Returns the number that one of them keeps.
 pub fn waste_in_each(alloc: Global, count: u64) -> Result<u64> {
     waste_in_one(alloc, 1, count)?;
     waste_in_one(alloc, 2, count)?;

@@ -29,7 +29,7 @@ use std::thread::Threads;
 use std::time::Clock;
 use verifying::verify_held;
 
-/// A thread founds the bank and the board.
+/// A thread makes the bank and the board.
 fn found_by<R: Wait>(
     rt: &R,
     alloc: Global,
@@ -43,7 +43,7 @@ fn found_by<R: Wait>(
     found_bank(alloc, &mut *portion)
 }
 
-/// Each seat's thread does `turns` turns. Returns what each of them found.
+/// Does `turns` turns of each seat's thread. Returns what each of them found.
 fn all_work<R: Threads + Wait + Clock + Sync>(
     rt: &R,
     alloc: Global,
@@ -67,7 +67,7 @@ fn all_work<R: Threads + Wait + Clock + Sync>(
     })
 }
 
-/// The same, and closes the heap then.
+/// Does the same, and then closes the heap.
 fn work_and_close<R: Threads + Wait + Clock + Sync>(
     rt: &R,
     alloc: Global,
@@ -80,7 +80,7 @@ fn work_and_close<R: Threads + Wait + Clock + Sync>(
     all
 }
 
-/// What all threads found together; or the first refusal.
+/// Returns what all threads found together, or the first error.
 fn total(all: &[Result<Found, Refusal>]) -> Result<Found, Refusal> {
     let mut sum = Found::new();
     for each in all {
@@ -92,7 +92,7 @@ fn total(all: &[Result<Found, Refusal>]) -> Result<Found, Refusal> {
     Ok(sum)
 }
 
-/// All threads work alongside the collector. Returns what they found, and how many collections have ended.
+/// Runs all threads alongside the collector. Returns what they found, and how many collections have ended.
 fn run_shared<R: Threads + Wait + Clock + Sync>(
     rt: &R,
     alloc: Global,
@@ -111,7 +111,7 @@ fn run_shared<R: Threads + Wait + Clock + Sync>(
     Ok((total(&all?)?, collections))
 }
 
-/// N threads share a heap, which is verified at the end.
+/// Shares a heap among N threads, and verifies it at the end.
 fn run_threads<R: Threads + Wait + Clock + Sync>(
     rt: &R,
     alloc: Global,
@@ -129,7 +129,7 @@ fn run_threads<R: Threads + Wait + Clock + Sync>(
     Ok((found, collections))
 }
 
-/// Does a work, and prints what was done; an error if anything was wrong.
+/// Does a work, and prints what was done. Fails if anything was wrong.
 fn run<R: Threads + Wait + Clock + Print + Sync>(
     rt: &R,
     alloc: Global,

@@ -25,16 +25,16 @@ pub const POLICY: Policy = Policy {
     percent: 75,
 };
 
-/// How many objects the collector scans in a part at most.
+/// The greatest number of objects that the collector scans in a part.
 const BUDGET: u32 = 16;
 
-/// For how many rests a portion lasts at least, while another thread waits.
+/// How many rests a portion lasts at least, while another thread waits.
 const RESTS: u32 = 3;
 
 /// The collector lets others run up to N times, until one of them has the heap.
 const MOST_YIELDS: u32 = 1_000;
 
-/// A heap of N threads in 192 pages of 64 words, with the globals of the bank and of the board.
+/// Returns a heap of N threads in 192 pages of 64 words, with the globals of the bank and of the board.
 fn new_heap(alloc: Global, threads: u32) -> Result<ManagedHeap> {
     let cell = Layout { refs: 1, nums: 1 };
     let table = Layout { refs: 16, nums: 0 };
@@ -44,7 +44,7 @@ fn new_heap(alloc: Global, threads: u32) -> Result<ManagedHeap> {
     Ok(ManagedHeap::new(alloc, config)?)
 }
 
-/// A heap of N threads that is shared, with its seats.
+/// Returns a shared heap of N threads, with its seats.
 pub fn opened(alloc: Global, threads: u32) -> Result<(SharedHeap, Seats)> {
     match SharedHeap::open(alloc, new_heap(alloc, threads)?, RESTS).ok() {
         Some(opened) => Ok(opened),

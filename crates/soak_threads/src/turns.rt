@@ -1,4 +1,4 @@
-//! What a thread does: it moves money between the accounts of a bank, and makes and reads lists.
+//! The operations of a thread: it moves money between the accounts of a bank, and makes and reads lists.
 //!
 //! Global 0 has the bank, a table of accounts, and global 1 the board, a table with a place for the last list of each
 //! thread. Register 0 keeps the list that a thread makes, register 1 the one that it reads; 2 and 3 are for one step.
@@ -14,7 +14,7 @@ pub const LENGTH: u32 = 50;
 /// The sum of a list's numbers.
 const SUM: u64 = 1_225;
 
-/// What each account has first.
+/// The coins of each account at first.
 const START: u64 = 1_000;
 
 /// Makes the bank and the board, in their globals.
@@ -41,7 +41,7 @@ pub fn transfer(mutator: &mut impl MutatorCalls, from: u32, to: u32) -> Result<(
     mutator.set_datum(3, 0, has.wrapping_add(1))
 }
 
-/// Whether all accounts together have what they had first.
+/// Returns whether the sum of all accounts is what it was at first.
 pub fn is_balanced(mutator: &mut impl MutatorCalls) -> Result<bool, Refusal> {
     let mut sum = 0u64;
     mutator.read_global(2, 0)?;
@@ -84,7 +84,7 @@ pub fn sum_half(mutator: &mut impl MutatorCalls, sum: u64) -> Result<u64, Refusa
     Ok(sum)
 }
 
-/// Whether a list that was read to its end has this sum, and has ended.
+/// Returns whether a list that was read to its end has this sum, and has ended.
 pub fn is_whole(mutator: &impl MutatorCalls, sum: u64) -> Result<bool, Refusal> {
     Ok(sum == SUM && mutator.is_null(1)?)
 }

@@ -1,4 +1,4 @@
-//! All turns of a thread, which looks for differences as it goes.
+//! All turns of a thread, which counts differences meanwhile.
 
 use crate::team::PLACES;
 use crate::turns::{LENGTH, is_balanced, is_whole, look_up, publish, push, sum_half, transfer};
@@ -9,10 +9,10 @@ use std::sync::{RwLockWriteGuard, Wait};
 use verify::Verdict;
 use verifying::verify_held;
 
-/// A thread verifies the heap each time after N turns.
+/// A thread verifies the heap after every N turns.
 pub const EVERY: u32 = 10_000;
 
-/// What a thread has done, and how often something wasn't as it has to be.
+/// What a thread has done, and how often something was wrong.
 #[derive(Clone, Copy)]
 pub struct Found {
     pub turns: u64,
@@ -21,7 +21,7 @@ pub struct Found {
 }
 
 impl Found {
-    /// Nothing.
+    /// Returns counts of 0.
     pub fn new() -> Found {
         Found {
             turns: 0,
@@ -30,7 +30,7 @@ impl Found {
         }
     }
 
-    /// Both together.
+    /// Returns the sums of both.
     pub fn and(self, other: Found) -> Found {
         Found {
             turns: self.turns.wrapping_add(other.turns),
@@ -39,14 +39,14 @@ impl Found {
         }
     }
 
-    /// Notes a difference, unless something is as it has to be.
+    /// Counts a difference, unless something is right.
     pub fn expect(&mut self, is_right: bool) {
         if !is_right {
             self.wrong = self.wrong.saturating_add(1);
         }
     }
 
-    /// Notes a verification.
+    /// Counts a verification.
     pub fn verify(&mut self, verdict: Result<Verdict, AllocError>) -> Result<(), Refusal> {
         let Ok(verdict) = verdict else {
             return Err(Refusal::Memory);
@@ -67,13 +67,13 @@ struct Worker {
 }
 
 impl Worker {
-    /// The next number.
+    /// Returns the next number.
     fn draw(&mut self) -> u32 {
         self.random = self.random.wrapping_mul(1_103_515_245).wrapping_add(12_345);
         self.random >> 8
     }
 
-    /// Moves a coin, and makes a cell more.
+    /// Moves a coin, and adds a cell to the list.
     fn work(&mut self, alloc: Global, mutator: &mut Mutator, turn: u32) -> Result<(), Refusal> {
         let accounts = self.draw();
         transfer(mutator, accounts % PLACES, (accounts >> 8) % PLACES)?;
@@ -101,7 +101,7 @@ impl Worker {
         Ok(portion)
     }
 
-    /// After a list is complete: puts it on the board, reads one from there, and looks at the bank.
+    /// When a list is complete: puts it on the board, reads one from there, and adds up the accounts.
     fn end_list<'a, R: Wait>(
         &mut self,
         rt: &R,
@@ -115,7 +115,7 @@ impl Worker {
         Ok(portion)
     }
 
-    /// One turn and a rest.
+    /// Does one turn and a rest.
     fn turn<'a, R: Wait>(
         &mut self,
         rt: &R,
@@ -136,7 +136,7 @@ impl Worker {
     }
 }
 
-/// All turns of a seat's thread, one of N threads.
+/// Does all turns of a seat's thread, one of N threads.
 pub fn work<R: Wait>(
     rt: &R,
     alloc: Global,

@@ -1,4 +1,4 @@
--- Where objects were copied to, as a heap's image has it.
+-- Where objects were copied to, in a heap's image.
 use Rattle.std.proofs.Common.{◌≡◌, ℕ, ◌/◌, ◌%◌, cond, Bool, true, false, eqb, List, [], ◌∷◌, Option, Some, None}
 use Rattle.std.proofs.Common.{is_some, refl, sym, ap, ◌∙◌}
 use Rattle.std.specs.List.{find}
@@ -16,12 +16,12 @@ use Rattle.verify.specs.Images.{copy_in, copy_of, copy_on, if_protected, is_copi
 use Rattle.verify.specs.Pictures.{image_of, page_data}
 use Rattle.soundness.proofs.Pages.{page_is, pictured}
 
--- where an entry says that its object was copied to
+-- the address to which an entry's object was copied
 abbrev copied_to : SideEntry → Option ℕ
 copied_to (Copied n) = Some n
 copied_to _ = None
 
--- a side array says the same in the image
+-- a forwarding table has the same in the image
 entry_copy : (fs : List Forwarding) (o : ℕ) → copied_to (entry_at fs o) ≡ copy_in fs o
 entry_copy [] o = refl
 entry_copy (f ∷ fs) o = by_test (entry_copy fs o) (eqb f.offset o)
@@ -36,7 +36,7 @@ entry_copy (f ∷ fs) o = by_test (entry_copy fs o) (eqb f.offset o)
     by_test r true = by_flag f.copied
     by_test r false = r
 
--- an object that no side array has as copied is current
+-- an object that no forwarding table has as copied is current
 pub copied_not : (h : HeapState) (a : ℕ) (p : Page) (q : HeapObject)
     → store_page h.store (a / h.store.words) ≡ Some p → is_copied (image_of h) a ≡ false
     → world_object h a ≡ Some q → current (world_of h) a ≡ Some q
@@ -53,8 +53,8 @@ copied_not h a p q e f g = by_entry ((world_of h).side_entry a) (ap is_some told
     by_entry (Planned n) k = g
     by_entry (Copied n) k = absurd (true≢false k)
 
--- an address leads in the image where the heap's side arrays forward it, as only pages that are being emptied, or were,
--- have copied objects
+-- in the image an address leads to where the heap's forwarding tables forward it, as only pages that are or were
+-- protected have copied objects
 pub resolve_is : (h : HeapState) (a : ℕ)
     → ((n : ℕ) → (world_of h).side_entry a ≡ Copied n → is_protected ((world_of h).page_state a) ≡ true)
     → resolve (image_of h) a ≡ world_resolve (world_of h) a

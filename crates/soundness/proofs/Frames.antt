@@ -23,7 +23,7 @@ use Rattle.soundness.proofs.Lists.{filtered_passes, once_filtered, never_filtere
 
 -- free frames
 
--- a frame is among the free ones once if it has no owner, else not
+-- a frame is in the list of free ones once if it has no owner, else not
 free_times : (s : StoreState) (f : ℕ) → times_in (free_of s) f ≡ as_number (is_free (slice_get s.owners f))
 free_times s f = elim (cases_lt f (length s.owners)) [
   | inl l ↦ once_filtered (λ f. is_free (slice_get s.owners f)) f 0 (length s.owners) (omega arith) (omega arith)
@@ -40,7 +40,7 @@ no_owner (Some (Some n)) e = absurd (false≢true e)
 
 -- pages
 
--- a page's frame is one frame
+-- a page's frame, if it is frame f
 frame_is : (f : ℕ) (o : Option ℕ) → is_frame f o ≡ true → o ≡ Some f
 frame_is f None h = absurd (false≢true h)
 frame_is f (Some g) h = ap Some (eqb-true g f h)
@@ -69,7 +69,7 @@ module _ (h : HeapState) (s : IsStore h.store) (d : IsHeap h) where
       count_none (λ p. is_frame f p.frame) (pages_of h)
       (λ j y e. false_from_ne_true _ (λ t. none (j + 1) (owner_of f j y e t)))
 
-  -- one that a page owns has that page alone
+  -- a frame that a page owns has that page alone
   owned_once : (f n : ℕ) → slice_get h.store.owners f ≡ Some (Some n) → owners_in (pages_of h) f ≡ 1
   owned_once f n e =
       let (i, p, number, at, framed) = s.owning.owner f n e in
@@ -80,7 +80,7 @@ module _ (h : HeapState) (s : IsStore h.store) (d : IsHeap h) where
       count_one (λ p. is_frame f p.frame) (pages_of h) i (page_data h (i + 1)) there here
       (λ j y g t. let same = same_Some n (j + 1) (same_Some _ _ (sym e ∙ owner_of f j y g t)) in omega arith)
 
-  -- a frame with an owner, or free, is there
+  -- a frame that has an owner or is free exists
   within : (f : ℕ) (o : Option ℕ) → slice_get h.store.owners f ≡ Some o → ltb f (length h.store.frames) ≡ true
   within f o e =
       let l = slice_get_within h.store.owners f o e in
@@ -101,7 +101,7 @@ module _ (h : HeapState) (s : IsStore h.store) (d : IsHeap h) where
       ∙ ap as_number (sym (within f None e))
   used_once f (Some (Some n)) e = ap (λ n. n + 0) (owned_once f n e) ∙ ap as_number (sym (within f (Some n) e))
 
-  -- a page of the image has a frame exactly where its state says so
+  -- a page of the image has a frame exactly if its state requires one
   framed_by_state : Each (pages_of h) HasItsFrame
   unfolding state_at
   framed_by_state j y e =
@@ -110,7 +110,7 @@ module _ (h : HeapState) (s : IsStore h.store) (d : IsHeap h) where
       (subst (λ (o : Option Page). is_some (frame_in o) ≡ has_memory (state_in o)) (sym (page_here h.store j p at))
       (s.pages j p at).memory)
 
-  -- a frame has the words of a page if it has an owner, and else none
+  -- a frame has the words of a page if it has an owner, else none
   sized_frame : (f : ℕ) (o : Option ℕ) → slice_get h.store.owners f ≡ Some o
       → has_words h.store.frames (owned_size h.store.words o) f ≡ true
   sized_frame f o e = by_frame (slice_get h.store.frames f) refl

@@ -1,4 +1,5 @@
--- Where the words of a heap's image lead: what names a birth in the heap leads to the birth's current object.
+-- Where the references of a heap's image lead: one that refers to a birth in the heap leads to the birth's current
+-- object.
 use Rattle.std.proofs.Common.{◌≡◌, ℕ, ◌+◌, Bool, length, Option, Some, None, refl, sym, ap, ◌∙◌, arith, nat_lt, cond}
 use Rattle.std.proofs.lemmas.Option.{none-some, same_Some}
 use Rattle.std.proofs.lemmas.Bool.{ltb-true}
@@ -21,14 +22,14 @@ use Rattle.soundness.proofs.Pages.{word_is}
 use Rattle.soundness.proofs.Copies.{resolve_is}
 use Rattle.soundness.proofs.Objects.{object_to}
 
--- a number in memory that stands for x leads to nothing, if x is no birth, and else to the birth's current object
+-- a number in memory that represents x leads to nothing if x is no birth, else to the birth's current object
 pub record Leads (h : HeapState) (v : ℕ) (x : Option ℕ) : Type 0 where
   pub found : Option ℕ
   pub leads_to : leads (image_of h) v ≡ Some found
   pub current_at : (c : ℕ) → found ≡ Some c → (q : HeapObject) × (current (world_of h) c ≡ Some q) × (x ≡ Some q.birth)
 
 module _ {h : HeapState} {p p0 : PlainHeap} (s : IsStore h.store) (d : IsHeap h) (k : Holds h p p0) where
-  -- the word of a reference of a current object is what the image has there
+  -- a reference of a current object is what the image has in that field
   pub field_there : (a i v : ℕ) (q : HeapObject) → current (world_of h) a ≡ Some q → field (image_of h) a i ≡ Some v
       → ref_field q i ≡ word_in_memory v
   unfolding field
@@ -41,7 +42,7 @@ module _ {h : HeapState} {p p0 : PlainHeap} (s : IsStore h.store) (d : IsHeap h)
       field_is h s k.laid a q here i v (ltb-true i (length q.refs) low)
       (ap (store_word h.store) spot ∙ sym (word_is h (a + 1 + i)) ∙ word)
 
-  -- a number that names a birth, or nothing, leads there
+  -- a number that refers to a birth, or to nothing, leads there
   pub leads_as_named : (v : ℕ) (x : Option ℕ) → names (world_of h) (word_in_memory v) ≡ Some x → Leads h v x
   unfolding leads
   leads_as_named v x e = by_word (read_word v) refl e

@@ -31,7 +31,7 @@ use Rattle.soundness.proofs.Pages.{page_is, pictured, word_is, page_of_words}
 
 -- addresses
 
--- the number of a page that is there
+-- the number of a page that exists
 page_number : (s : StoreState) (n : ℕ) (p : Page) → IsStore s → store_page s n ≡ Some p
     → n ≤ MOST_PAGES
 page_number s n p k e =
@@ -40,7 +40,7 @@ page_number s n p k e =
     let few : record_count (length s.frames) s.count ≤ s.count = grind (arith, nat_tests) in
     omega (arith, there.0, within, few, k.sized.pages, k.sized.count)
 
--- an address within so many pages of so many words
+-- an address within a number of pages of a number of words
 low_address : (a n w : ℕ) → a / w ≡ n → n ≤ MOST_PAGES → 0 < w → w ≤ MOST_WORDS → a < addresses.LIMIT
 low_address a n w e l z m =
     let x : a < a / w * w + w = lt-div-mul-add z in bounded a (a / w) w x (omega arith) m
@@ -48,7 +48,7 @@ low_address a n w e l z m =
     bounded : (a p w : ℕ) → a < p * w + w → p ≤ MOST_PAGES → w ≤ MOST_WORDS → a < addresses.LIMIT
     bounded a p w x l m = grind (arith)
 
--- an address on a page that is there is one that words can have
+-- an address on a page that exists is one that references can have
 address_low : (h : HeapState) (a : ℕ) (p : Page) → IsStore h.store → store_page h.store (a / h.store.words) ≡ Some p
     → a < addresses.LIMIT
 address_low h a p s e =
@@ -57,7 +57,7 @@ address_low h a p s e =
 
 -- objects
 
--- what an image has where there is a header, its layout is known, and there is room
+-- the object of an image at a header whose layout is known and for which there is space
 object_read : (i : ImageData) (a bits : ℕ) (l : Layout) → word_at i a ≡ Some bits
     → slice_get i.layouts (layout_of bits) ≡ Some l → leb (a % i.words + size_of l) i.words ≡ true
     → object_in i a ≡ Some (record { birth = birth_of bits; refs = l.refs })
@@ -106,7 +106,7 @@ module _ (h : HeapState) (s : IsStore h.store) (d : IsHeap h) where
       (sym (word_on_page h.store a) ∙ sym (word_is h a) ∙ e) in
       (found.0, found.1)
 
-  -- and no other
+  -- and no other object is in the image
   pub object_from : (a n : ℕ) → IsLaid h → IsBirthAt (image_of h) a n
       → (q : HeapObject) × (world_object h a ≡ Some q) × (q.birth ≡ n)
   unfolding object_at object_in image_of

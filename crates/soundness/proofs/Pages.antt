@@ -13,7 +13,7 @@ use Rattle.verify.specs.Images.{◌>>=◌, PageData, page_at, word_at}
 use Rattle.verify.specs.Pictures.{image_of, page_data, pages_of}
 use Rattle.soundness.proofs.Lists.{numbered}
 
--- the image of page n, if there is that page
+-- the image of page n, if the page exists
 abbrev pub pictured : HeapState → ℕ → Option Page → Option PageData
 pictured h n o = option_map (λ p. page_data h n) o
 
@@ -35,7 +35,7 @@ pub page_is : (h : HeapState) (a : ℕ)
 unfolding page_at image_of store_page
 page_is h a = at_number h (a / h.store.words)
 
--- a page with words is there
+-- a page with words exists
 pub page_of_words : (s : StoreState) (n : ℕ) (ws : List ℕ) → words_at s n ≡ Some ws
     → (p : Page) × (store_page s n ≡ Some p)
 unfolding words_at
@@ -53,7 +53,7 @@ word_on frames offset o = do
   words ← slice_get frames frame
   slice_get words offset
 
--- the word at an offset of a page that may be missing
+-- the word at an offset of a page that may not exist
 abbrev word_behind : List (List ℕ) → ℕ → Option PageData → Option ℕ
 word_behind frames offset o = do
   page ← o

@@ -1,4 +1,4 @@
--- The roots of a heap's image: each has a number that stands for what the plain heap has there.
+-- The roots of a heap's image: each has a number that represents what the reference model has there.
 use Rattle.std.proofs.Common.{◌≡◌, ℕ, Bool, map, Option, Some, None, sym, ap, ◌∙◌}
 use Rattle.std.specs.List.{slice_get}
 use Rattle.std.specs.Option.{option_map, option_flatten}
@@ -22,17 +22,17 @@ use Rattle.verify.specs.Soundness.{root_value}
 use Rattle.verify.specs.Pictures.{image_of, registers_of, load_of}
 use Rattle.soundness.proofs.Lists.{found_first, mapped_first, mapped_from}
 
--- a number stands for a birth, or for none; and the birth, if it is one, is in a root of the plain heap
+-- a number represents a birth, or none; and the birth, if it is one, is in a root of the reference model
 pub record IsRootNumber (h : HeapState) (p : PlainHeap) (v : ℕ) : Type 0 where
   pub named : Option ℕ
   pub names : names (world_of h) (word_in_memory v) ≡ Some named
   pub root : (n : ℕ) → named ≡ Some n → IsRoot (births_of p) n
 
--- the bits of a word are read as that word
+-- the bits of a reference are read as that reference
 read_back : (w : Option (ℕ × Bool)) (v : ℕ) → IsWord w → bits_of w ≡ v → word_in_memory v ≡ as_word w
 read_back w v k e = ap word_in_memory (sym e) ∙ ap as_read (reads_back w k)
 
--- an option of an option that isn't empty within
+-- a nested option whose flattening has a value
 flattened : (o : Option (Option ℕ)) (v : ℕ) → option_flatten o ≡ Some v → o ≡ Some (Some v)
 flattened None v e = absurd (none-some v e)
 flattened (Some o) v e = ap Some e
@@ -55,7 +55,7 @@ module _ {h : HeapState} {p p0 : PlainHeap} (k : Holds h p p0) where
         root = λ n e. IsRootIn.InRegister t r e;
       }
 
-  -- the word so far of a load that isn't finished
+  -- the current reference of an unfinished load
   of_load : (t v : ℕ) → root_value (image_of h) (roots.Pending t) ≡ Some v → IsRootNumber h p v
   unfolding image_of
   of_load t v e =

@@ -1,4 +1,4 @@
--- The image of a heap that stands for a plain heap is sound.
+-- The image of a heap that represents a reference model is sound.
 use Rattle.std.proofs.Common.{◌≡◌, ◌⊎◌, inl, inr, ℕ, ◌/◌, false, Some, sym, ap, ◌∙◌}
 use Rattle.std.proofs.lemmas.Option.{same_Some}
 use Rattle.model.specs.Owning.{IsStore}
@@ -23,14 +23,14 @@ use Rattle.soundness.proofs.Frames.{has_frames}
 use Rattle.soundness.proofs.Leading.{leads_as_named, field_there}
 use Rattle.soundness.proofs.Roots.{of_root}
 
--- a current object is at an address, and its birth is kept
+-- a current object is at an address, and the reference model has its birth
 record IsAnchored (h : HeapState) (p : PlainHeap) (a : ℕ) : Type 0 where
   object : HeapObject
   here : current (world_of h) a ≡ Some object
   kept : IsKept (world_of h) (births_of p) object.birth
 
 module _ {h : HeapState} {p p0 : PlainHeap} (s : IsStore h.store) (d : IsHeap h) (k : Holds h p p0) where
-  -- the value of a field of such an object stands for what the plain heap has there
+  -- the value of a field of such an object represents what the reference model has there
   field_names : (a i v : ℕ) (t : IsAnchored h p a) → field (image_of h) a i ≡ Some v
       → names (world_of h) (word_in_memory v) ≡ Some (ref (births_of p) t.object.birth i)
   field_names a i v t e =
@@ -44,7 +44,7 @@ module _ {h : HeapState} {p p0 : PlainHeap} (s : IsStore h.store) (d : IsHeap h)
       ap (λ o. ref_field o i) is ∙ field_there s d k a i v t.object t.here e in
       ap (names (world_of h)) (sym read) ∙ (has.refs i).names
 
-  -- what is reached in the image is such an object
+  -- an object that is reached in the image is such an object
   anchored : (a : ℕ) → IsReached (image_of h) a → IsAnchored h p a
   anchored _ (IsReached.FromRoot a v r e f) =
       let root = of_root k r v e in
@@ -57,7 +57,7 @@ module _ {h : HeapState} {p p0 : PlainHeap} (s : IsStore h.store) (d : IsHeap h)
       let (q, here, birth) = to.current_at c (same_Some to.found (Some c) (sym to.leads_to ∙ f)) in
       record { object = q; here = here; kept = IsBirthReached.Next from.object.birth q.birth i from.kept birth }
 
-  -- the value of a field of what is reached is good
+  -- the value of a field of a reached object is good
   good_field : (a i v : ℕ) → IsReached (image_of h) a → field (image_of h) a i ≡ Some v → IsGood (image_of h) v
   good_field a i v r e =
       let from = anchored a r in
@@ -72,14 +72,14 @@ module _ {h : HeapState} {p p0 : PlainHeap} (s : IsStore h.store) (d : IsHeap h)
       let (page, at) = page_of_words h.store (a / h.store.words) t.words t.page in
       copied_not h a page q at f e
 
-  -- what is reached, or isn't copied, is current
+  -- an object that is reached, or isn't copied, is current
   current_of : (c : ℕ) (q : HeapObject) → world_object h c ≡ Some q
       → IsReached (image_of h) c ⊎ (is_copied (image_of h) c ≡ false) → current (world_of h) c ≡ Some q
   current_of c q e (inl r) =
       let t = anchored c r in t.here ∙ sym (current_there (world_of h) c t.object t.here) ∙ e
   current_of c q e (inr f) = uncopied c q e f
 
-  -- no birth has two objects of which one is reached, and the other is too or wasn't copied
+  -- no birth has two objects of which one is reached, and the other is reached too or wasn't copied
   no_twins : (a c n : ℕ) → AreTwins (image_of h) n a c → ⊥
   no_twins a c n t =
       let (q, at, birth) = object_from h s d a n k.laid t.first in
@@ -88,7 +88,7 @@ module _ {h : HeapState} {p p0 : PlainHeap} (s : IsStore h.store) (d : IsHeap h)
       let second = current_of c r there t.other in
       t.apart (k.invariant.objects.one_current a c q r first second (birth ∙ sym other))
 
-  -- the whole
+  -- all conditions
   pub image_sound : IsSound (image_of h)
   image_sound = record {
     frames = has_frames h s d;

@@ -1,4 +1,4 @@
--- What is promised of the images of heaps.
+-- What images of heaps promise.
 use Rattle.model.specs.Owning.{IsStore}
 use Rattle.model.specs.Holding.{IsHeap}
 use Rattle.model.specs.States.{HeapState}
@@ -7,6 +7,6 @@ use Rattle.refinement.specs.Standing.{Holds}
 use Rattle.verify.specs.Soundness.{IsSound}
 use Rattle.verify.specs.Pictures.{image_of}
 
--- the image of a heap that stands for a plain heap is sound; p0 is the plain heap as the last mark began
+-- the image of a heap that represents a reference model is sound; p0 is the reference model when the last mark began
 abbrev pub ImagesSound : Type 0
 ImagesSound = (h : HeapState) (p p0 : PlainHeap) → IsStore h.store → IsHeap h → Holds h p p0 → IsSound (image_of h)

@@ -1,4 +1,4 @@
-//! Several loads by one call, and new objects that are filled as they are made.
+//! Several loads by one call, and new objects that are filled.
 
 use crate::same::same;
 use collecting::{Holding, Policy};
@@ -34,7 +34,7 @@ fn new_pairs(alloc: Global) -> Result<ManagedHeap, Fail> {
     Ok(ManagedHeap::new(alloc, Config::new(16, 8, layouts))?)
 }
 
-/// Two objects with a number each, and one that names both, first the second.
+/// Allocates two objects with a number each, and one that refers to both, first to the second.
 fn pair(alloc: Global, heap: &mut impl Holding) -> Result<(), Refusal> {
     heap.make_with(alloc, POLICY, ME, FIRST, 0, &[], &[1, 10])?;
     heap.make_with(alloc, POLICY, ME, SECOND, 0, &[FIRST, SECOND], &[2])?;
@@ -46,7 +46,7 @@ fn load(target: u32, field: u32) -> FieldLoad {
     FieldLoad { target, field }
 }
 
-/// What was given is there: a source that is the new object's own register names the new object.
+/// The object has what was given: a source that is the new object's own register refers to the new object.
 fn is_filled(rt: &impl Abort, alloc: Global, mut heap: impl Holding + Drop) {
     same(rt, pair(alloc, &mut heap), Ok(()));
     same(rt, heap.datum(ME, BOTH, 1), Ok(30));
@@ -65,7 +65,7 @@ fn objects_are_filled(rt: HostRuntime) -> Result<(), Fail> {
     Ok(())
 }
 
-/// Loads stop at the first that fails, and say how many are done; these stay.
+/// Loads stop at the first that fails, and return how many are done; these stay.
 fn stops(rt: &impl Abort, alloc: Global, mut heap: impl Holding + Drop) {
     same(rt, pair(alloc, &mut heap), Ok(()));
     let fault = LoadsFault {
@@ -85,7 +85,7 @@ fn loads_stop_at_the_first_that_fails(rt: HostRuntime) -> Result<(), Fail> {
     Ok(())
 }
 
-/// Where the object can't be filled none is made, and the register stays.
+/// If the object can't be filled none is allocated, and the register stays.
 fn makes_none(rt: &impl Abort, alloc: Global, mut heap: impl Holding + Drop) {
     same(rt, pair(alloc, &mut heap), Ok(()));
     for (layout, sources) in [(1, [FIRST]), (0, [16])] {
@@ -108,7 +108,7 @@ fn nothing_is_made_that_cant_be_filled(rt: HostRuntime) -> Result<(), Fail> {
     Ok(())
 }
 
-/// Objects that name the one before, of which the last few are kept: the heap is collected for them.
+/// Allocates objects that refer to the one before, of which the last few are kept: the heap is collected for them.
 fn chain(alloc: Global, heap: &mut impl Holding, count: u64) -> Result<(), Refusal> {
     let policy = Policy::usual(16, 4);
     heap.make_with(alloc, policy, ME, FIRST, 0, &[], &[0])?;

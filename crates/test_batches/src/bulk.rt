@@ -1,4 +1,4 @@
-//! Data words that are copied, and bytes that are read and written, many by one call.
+//! Copying data words, and reading and writing bytes, many by one call.
 
 use crate::same::same;
 use collecting::{Holding, Parts, Policy};
@@ -31,7 +31,7 @@ const POLICY: Policy = Policy {
     percent: 100,
 };
 
-/// Two values are the same, at a place that the message tells.
+/// Asserts that two values of a place are equal.
 fn same_at<P: Display + Drop, T: PartialEq + Debug + Drop>(
     rt: &impl Abort,
     place: P,
@@ -59,7 +59,7 @@ fn plain_bytes() -> [u8; MANY_BYTES] {
     bytes
 }
 
-/// A long object with its numbers, and a short one of two words.
+/// Allocates a long object with its numbers, and a short one of two words.
 fn makes(alloc: Global, heap: &mut impl Holding) -> Result<(), Refusal> {
     heap.make(alloc, POLICY, ME, LONG, 0)?;
     heap.make(alloc, POLICY, ME, SHORT, 1)?;
@@ -127,7 +127,7 @@ fn bytes_are_there(rt: &impl Abort, heap: &impl Holding) {
     }
 }
 
-/// Bytes are written, and those round them stay.
+/// Bytes are written, and the bytes around them stay.
 fn bytes_are_written(rt: &impl Abort, heap: &mut impl Holding) -> Result<(), Refusal> {
     let mut bytes = plain_bytes();
     for (first, size) in [(3, 2), (5, 3), (6, 4), (15, 1), (639, 1), (1, 637), (2, 0)] {
@@ -180,7 +180,7 @@ fn are_refused(rt: &impl Abort, heap: &mut impl Holding) {
     is_moved(rt, heap, 0, 0, 0);
 }
 
-/// A parked thread neither copies nor reads nor writes; no word and no byte is there of any register.
+/// A parked thread neither copies nor reads nor writes; zero words and bytes can be read by any register.
 fn parked_and_none(rt: &impl Abort, heap: &mut impl Holding) -> Result<(), Refusal> {
     same(rt, heap.copy_data(ME, NULL, 9, NULL, 9, 0), Ok(()));
     same(rt, heap.read_bytes(ME, NULL, 9, &mut []), Ok(()));
@@ -204,7 +204,7 @@ fn parked_and_none(rt: &impl Abort, heap: &mut impl Holding) -> Result<(), Refus
     heap.unpark(ME)
 }
 
-/// Each call in each part of a collection that moves the objects.
+/// Each call works in each part of a collection that moves the objects.
 fn in_parts(rt: &impl Abort, alloc: Global, heap: &mut impl Holding) -> Result<(), Refusal> {
     let mut parts = Parts::new(alloc);
     for _part in 0u64.. {

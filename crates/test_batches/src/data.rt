@@ -29,7 +29,7 @@ const POLICY: Policy = Policy {
     percent: 100,
 };
 
-/// Two values are the same, at a place that the message tells.
+/// Asserts that two values of a place are equal.
 fn same_at<P: Display + Drop, T: PartialEq + Debug + Drop>(
     rt: &impl Abort,
     place: P,
@@ -48,7 +48,7 @@ fn numbers() -> [u64; MANY] {
     numbers
 }
 
-/// A long object with its numbers, and a short one of two words.
+/// Allocates a long object with its numbers, and a short one of two words.
 fn makes(alloc: Global, heap: &mut impl Holding) -> Result<(), Refusal> {
     heap.make(alloc, POLICY, ME, LONG, 0)?;
     heap.make(alloc, POLICY, ME, SHORT, 1)?;
@@ -56,7 +56,7 @@ fn makes(alloc: Global, heap: &mut impl Holding) -> Result<(), Refusal> {
     heap.set_many(ME, SHORT, 0, &[1, 2])
 }
 
-/// The words are there by single reads, and in parts of each length.
+/// The words are read one by one, and in ranges of each length.
 fn are_there(rt: &impl Abort, heap: &impl Holding) {
     let numbers = numbers();
     for (place, number) in numbers.iter().enumerate() {
@@ -71,7 +71,7 @@ fn are_there(rt: &impl Abort, heap: &impl Holding) {
     }
 }
 
-/// Words that aren't there are neither read nor written, and none beside them is written.
+/// Words past the end are neither read nor written, and no word next to them is written.
 fn are_refused(rt: &impl Abort, heap: &mut impl Holding) {
     let mut read = [0; 3];
     for first in [0, 1, 2, u32::MAX] {
@@ -91,7 +91,7 @@ fn are_refused(rt: &impl Abort, heap: &mut impl Holding) {
     same(rt, read, [1, 2, 0]);
 }
 
-/// No word is read or written of any register.
+/// Zero words can be read and written by any register.
 fn none_is_asked(rt: &impl Abort, heap: &mut impl Holding) {
     same(rt, heap.set_many(ME, NULL, 9, &[]), Ok(()));
     same(rt, heap.get_many(ME, NULL, 9, &mut []), Ok(()));

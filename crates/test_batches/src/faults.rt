@@ -1,4 +1,4 @@
-//! Kinds of refusal.
+//! Kinds of errors.
 
 use crate::same::same;
 use collecting::CallFault;
@@ -8,7 +8,7 @@ use std::fmt::Write as _;
 use std::process::Abort;
 use std::test::Fail;
 
-/// The text of the fault that a refusal is.
+/// Returns the text of the fault of an error.
 fn text(alloc: Global, refusal: Refusal) -> Result<String, AllocError> {
     let mut text = String::new(alloc);
     let fault = CallFault::from(refusal);
@@ -16,7 +16,7 @@ fn text(alloc: Global, refusal: Refusal) -> Result<String, AllocError> {
     Ok(text)
 }
 
-/// A refusal is told so.
+/// An error has this text.
 fn tells(rt: &impl Abort, alloc: Global, refusal: Refusal, wanted: &str) -> Result<(), Fail> {
     same(rt, text(alloc, refusal)?.as_str(), wanted);
     Ok(())

@@ -1,4 +1,4 @@
-//! Registers after each part of a collection, and after a whole one.
+//! Registers after each part of a collection, and after a complete one.
 
 use crate::same::same;
 use collecting::{Holding, Parts, Policy};
@@ -32,12 +32,12 @@ fn new_heap(alloc: Global) -> Result<ManagedHeap, Fail> {
     Ok(ManagedHeap::new(alloc, config)?)
 }
 
-/// What a register's object has as its datum.
+/// Returns the datum of a register's object.
 fn datum(thread: u32, register: u32) -> u64 {
     u64::from(thread.wrapping_mul(100).wrapping_add(register))
 }
 
-/// An object in a register of a thread, behind four that nobody keeps, with which it fills a page.
+/// Allocates an object in a register of a thread, after four garbage ones, with which it fills a page.
 fn fill(alloc: Global, heap: &mut impl Holding, thread: u32, register: u32) -> Result<(), Refusal> {
     for _ in 0..5 {
         heap.make(alloc, POLICY, thread, register, 0)?;
@@ -66,7 +66,7 @@ fn reads(rt: &impl Abort, heap: &impl Holding, thread: u32) {
     }
 }
 
-/// Behind each part with this budget each register can be read, until two collections have ended.
+/// After each part with this budget each register can be read, until two collections have ended.
 fn by_parts(
     rt: &impl Abort,
     alloc: Global,
@@ -87,7 +87,7 @@ fn by_parts(
     Ok(())
 }
 
-/// Behind a whole collection each register can be read, but for those of a thread that was parked: the next part
+/// After a complete collection each register can be read, except those of a thread that was parked: the next part
 /// corrects these.
 fn whole(rt: &impl Abort, alloc: Global, mut heap: impl Holding + Drop) -> Result<(), Fail> {
     fill_all(alloc, &mut heap)?;
@@ -108,7 +108,7 @@ fn registers_behind_parts(rt: HostRuntime) -> Result<(), Fail> {
     whole(&rt, rt.alloc(), new_heap(rt.alloc())?)
 }
 
-/// Parts up to the one that stops at an open load of thread 0, at most so many.
+/// Does parts up to the one that fails at an open load of thread 0, up to a limit.
 fn until_stopped(
     alloc: Global,
     heap: &mut impl Holding,
@@ -121,8 +121,8 @@ fn until_stopped(
     Ok(())
 }
 
-/// The part that protects pages stops at a load that was opened before it. A collection that comes then ends what
-/// it has left, once the load is done.
+/// The part that protects pages fails at a load that was opened before it. A collection after that does the rest,
+/// once the load has ended.
 fn between(rt: &impl Abort, alloc: Global, heap: &mut impl Holding) -> Result<(), Fail> {
     let mut parts = Parts::new(alloc);
     while_marking(rt, alloc, heap, &mut parts)?;
@@ -137,7 +137,7 @@ fn between(rt: &impl Abort, alloc: Global, heap: &mut impl Holding) -> Result<()
     Ok(())
 }
 
-/// Parts of the mark, and of the measuring of pages, but for the last ones.
+/// Does parts of the mark, and of the measuring of pages, except the last ones.
 fn while_marking(
     rt: &impl Abort,
     alloc: Global,

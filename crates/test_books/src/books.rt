@@ -1,4 +1,4 @@
-//! Books of the steps that a heap accepted.
+//! Recorded heaps, with the steps that a heap accepted.
 
 use crate::same::same;
 use cycle::{Actor, Answer, Book, Entry, Step, run};
@@ -9,10 +9,10 @@ use std::test::Fail;
 use test_support_books::{HeldBook, act, small_book};
 use test_support_samples::small;
 
-/// What a step is answered.
+/// The reply to a step.
 type Reply = Result<Answer, Refusal>;
 
-/// An actor, its step, and the reply that it has to have.
+/// An actor, its step, and the expected reply.
 type Row = (Actor, Step, Reply);
 
 const FIRST: Actor = Actor::Thread(0);
@@ -128,7 +128,7 @@ fn a_run_replies_in_order(rt: HostRuntime) -> Result<(), Fail> {
     replied(&rt, rt.alloc(), small_book(rt.alloc())?, rows)
 }
 
-/// The steps of the rows that are to be accepted.
+/// Returns the steps of the rows that are accepted.
 fn accepted_steps(alloc: Global, rows: Vec<Row>) -> Result<Vec<(Actor, Step)>, Fail> {
     let mut steps = Vec::new(alloc);
     for (actor, step, reply) in rows {
@@ -155,7 +155,7 @@ fn a_run_is_accepted(rt: HostRuntime) -> Result<(), Fail> {
     accepted(rt.alloc(), small_book(rt.alloc())?, rows)
 }
 
-/// Steps of which an actor or a number names nothing, on a heap with two registers and one layout.
+/// Steps with an actor or a number that names nothing, on a heap with two registers and one layout.
 fn bad_steps(alloc: Global) -> Result<Vec<Row>, AllocError> {
     Ok(vec![in alloc;
         (SECOND, Step::Take(0), Err(Refusal::NoActor)),
@@ -188,7 +188,7 @@ fn bad_steps(alloc: Global) -> Result<Vec<Row>, AllocError> {
     ]?)
 }
 
-/// Does the steps of the rows on a new book, which has so many entries then.
+/// Does the steps of the rows on a new recorded heap, which has `entries` entries then.
 fn plays(rt: &impl Abort, mut held: impl HeldBook + Drop, rows: Vec<Row>, entries: usize) {
     let book = held.book();
     play(rt, book, rows);
@@ -232,7 +232,7 @@ fn limits_are_kept(rt: HostRuntime) -> Result<(), Fail> {
     Ok(())
 }
 
-/// The field for which no book can be made.
+/// Returns the field for which no recorded heap can be made.
 fn told(alloc: Global, config: Config) -> Option<ConfigFault> {
     match Book::new(alloc, config).err() {
         Some(NewFault::Config(fault)) => Some(fault),

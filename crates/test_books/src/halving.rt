@@ -1,4 +1,4 @@
-//! A whole page copied by halves, on threads of their own.
+//! A page copied by halves, on threads of their own.
 
 use crate::same::same;
 use cycle::{Actor, Answer, Book, PageList, PieceGate, Reply, Step};
@@ -18,13 +18,13 @@ const SECOND: Actor = Actor::Thread(1);
 
 const WORKER: Actor = Actor::Worker(0);
 
-/// The turns after which a hold gives up.
+/// The turns after which a wait gives up.
 const TURNS: u64 = 1_000_000;
 
-/// The same, where nobody is to come.
+/// The same, if no other piece begins.
 const FEW_TURNS: u64 = 1_000;
 
-/// Holds each of the pieces 0 and 1 until the other has begun, for so many turns at most.
+/// Holds each of the pieces 0 and 1 until the other has begun, for a number of turns at most.
 #[derive(Drop)]
 struct Meeting {
     turns: u64,
@@ -32,7 +32,7 @@ struct Meeting {
     gave_up: AtomicU64,
 }
 
-/// Nobody has come yet.
+/// Returns the state before any piece has begun.
 fn nobody_came(turns: u64) -> Meeting {
     Meeting {
         turns,
@@ -41,7 +41,7 @@ fn nobody_came(turns: u64) -> Meeting {
     }
 }
 
-/// Waits until a word has a value. False where it gave up.
+/// Waits until a word has a value. Returns false if it gave up.
 fn reaches(word: &AtomicU64, value: u64, turns: u64) -> bool {
     for _ in 0..turns {
         if word.load(Ordering::SeqCst) >= value {
@@ -74,7 +74,7 @@ pub fn does(rt: &impl Abort, book: &mut Book, actor: Actor, step: Step) {
     assert!(rt; act(book, actor, step).is_ok());
 }
 
-/// A page is filled with so many objects, each of which names the one before.
+/// A page is filled with `objects` objects, each of which refers to the one before.
 fn fill(rt: &impl Abort, book: &mut Book, objects: u32) {
     does(rt, book, FIRST, Step::Take(16));
     for _ in 0..objects {
@@ -124,7 +124,7 @@ fn drain(rt: &impl Abort, book: &mut Book) {
     }
 }
 
-/// Pages are protected of two that are full of so many live objects, which may be copied then.
+/// Protects pages of two that are full of `first` and `second` live objects, which may be copied then.
 pub fn protect(rt: &impl Abort, book: &mut Book, first: u32, second: u32, pages: Vec<u32>) {
     fill(rt, book, first);
     fill(rt, book, second);
@@ -136,12 +136,12 @@ pub fn protect(rt: &impl Abort, book: &mut Book, first: u32, second: u32, pages:
     cross(rt, book);
 }
 
-/// So many objects of a page were copied.
+/// Returns the reply for `copied` copied objects of a page.
 pub fn copied(copied: u64) -> Reply {
     Ok(Answer::CopiedPage { copied })
 }
 
-/// A page's objects are copied, and its frame is given up.
+/// A page's objects are all copied, and its frame is released.
 pub fn is_empty(rt: &impl Abort, book: &mut Book, page: u32) {
     same(rt, act(book, WORKER, Step::CopyPage(page)), copied(0));
     does(rt, book, WORKER, Step::Release(page));
@@ -152,8 +152,8 @@ fn copy_by(rt: &(impl Threads + Sync), book: &mut Book, depth: u32, gate: &Meeti
     book.copy_page_by(rt, 0, 1, depth, gate)
 }
 
-/// All five objects of page 1 are copied to a depth, and nothing is left to be copied. It gives whether
-/// a hold gave up.
+/// All five objects of page 1 are copied to a depth, and nothing is left to be copied. Returns whether a wait gave
+/// up.
 fn halves(
     rt: &(impl Abort + Threads + Sync),
     mut held: impl HeldBook + Drop,
@@ -168,7 +168,7 @@ fn halves(
     gate.gave_up.load(Ordering::SeqCst) == 1
 }
 
-/// A new book of that configuration.
+/// Returns a new recorded heap of that configuration.
 pub fn new_book(alloc: Global) -> Result<Book, NewFault> {
     Book::new(alloc, config(alloc)?)
 }
@@ -182,8 +182,8 @@ fn two_threads_copy_a_page(rt: HostRuntime) -> Result<(), Fail> {
     Ok(())
 }
 
-/// Who copies a page alone, as a whole, waits for the other half in vain; so the test above doesn't let
-/// that through, which each contract does.
+/// An implementation that copies a page on one thread waits for the other half in vain; so the test above doesn't
+/// accept it, which each contract does.
 #[test]
 fn one_thread_meets_nobody(rt: HostRuntime) -> Result<(), Fail> {
     let page = vec![in rt.alloc(); 1]?;
@@ -192,7 +192,7 @@ fn one_thread_meets_nobody(rt: HostRuntime) -> Result<(), Fail> {
     Ok(())
 }
 
-/// Neither does it let through who copies both halves alone, one after the other.
+/// Nor does it accept one that copies both halves on one thread, one after the other.
 #[test]
 fn one_thread_begins_both_halves(rt: HostRuntime) {
     let gate = nobody_came(FEW_TURNS);

@@ -1,4 +1,4 @@
-//! Entries of histories, and a history that is filled to the highest limit.
+//! Entries of histories, and a history that is filled to the greatest limit.
 
 use crate::same::same;
 use cycle::{Actor, Answer, Book, Entry, History, PageList, Step};
@@ -8,8 +8,8 @@ use std::process::Abort;
 use std::test::Fail;
 use test_support_books::{HeldBook, act, small_book};
 
-/// Steps with their answers: with all numbers that an entry has room for, with a list, and with an
-/// answer that the step never has.
+/// Steps with their answers: with all numbers that an entry has space for, with a list, and with an answer that the
+/// step never has.
 fn told_steps(alloc: Global) -> Result<Vec<(Step, Answer)>, AllocError> {
     let pages = PageList::new(vec![in alloc; 4, 2, 9]?);
     Ok(vec![in alloc;
@@ -81,7 +81,7 @@ fn enter(history: &mut History, step: Step, answer: Answer) -> Result<(), AllocE
     Ok(())
 }
 
-/// Enters a step with its answer, which are found then behind all others.
+/// Enters a step with its answer, and finds them as the last entry.
 fn enters(
     rt: &impl Abort,
     alloc: Global,
@@ -95,7 +95,7 @@ fn enters(
     has_entry(rt, alloc, history, index, &text, answer)
 }
 
-/// The list of pages stands behind later entries as before them, and nothing stands behind the last.
+/// The list of pages is the same after later entries as before them, and there is nothing after the last.
 fn stays(rt: &impl Abort, alloc: Global, history: &History) -> Result<(), Fail> {
     let answer = Answer::Protected {
         objects: 1 << 40,
@@ -126,7 +126,7 @@ fn entries(rt: HostRuntime) -> Result<(), Fail> {
     enters_all(&rt, rt.alloc(), &mut History::new(rt.alloc()), steps)
 }
 
-/// The book accepts as many steps as it may, and refuses the next.
+/// The recorded heap accepts as many steps as its limit, and rejects the next.
 fn fill(rt: &impl Abort, mut held: impl HeldBook + Drop) {
     let book = held.book();
     for _ in 0..1_000_000 {

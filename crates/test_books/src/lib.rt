@@ -1,4 +1,4 @@
-//! The tests of books: steps with their answers, whole loads, drains, copies by halves, and histories.
+//! The tests of recorded heaps: steps with their answers, complete loads, drains, copies by halves, and histories.
 #![tactic(auto)]
 
 #[cfg(test)]

@@ -1,4 +1,4 @@
-//! Whole loads, and refusals as errors.
+//! Complete loads, with errors.
 
 use crate::same::same;
 use cycle::Book;
@@ -11,7 +11,7 @@ use test_support_samples::linked;
 
 const THREAD: Actor = Actor::Thread(0);
 
-/// An object whose reference is itself, in register 0. A refusal ends it.
+/// Allocates an object whose reference is itself, in register 0. Stops at the first error.
 fn make(book: &mut Book) -> Result<(), Refusal> {
     let (target, layout) = (0, 0);
     act(book, THREAD, Step::Take(16))?;
@@ -54,7 +54,7 @@ fn try_loads(
     same(rt, book.heap().register(0, 1), book.heap().register(0, 0));
 }
 
-/// What the steps of both loads said.
+/// Both loads have these replies.
 fn have_replied(rt: &impl Abort, replies: &[Result<Answer, Refusal>]) {
     let wanted = [
         Err(Refusal::Null),
@@ -79,7 +79,7 @@ fn begin(book: &mut Book) -> Result<Answer, Refusal> {
     act(book, THREAD, Step::Trap)
 }
 
-/// A load goes on behind a trap that was due.
+/// A load continues after a trap that was due.
 fn try_end(
     rt: &impl Abort,
     mut held: impl HeldBook + Drop,
@@ -95,7 +95,7 @@ fn try_end(
     );
 }
 
-/// What the steps behind that trap said: the place of the load is healed.
+/// The steps after that trap have these replies: the place of the load is healed.
 fn have_healed(rt: &impl Abort, replies: &[Result<Answer, Refusal>]) {
     let wanted = [Ok(Answer::Clear), Ok(Answer::Healed), Ok(Answer::Done)];
     same(rt, replies, wanted.as_slice());

@@ -1,4 +1,4 @@
-//! Drains, as a program asks for them, and what their steps said.
+//! Drains by one call, and the replies to their steps.
 
 use crate::same::same;
 use cycle::Book;
@@ -13,8 +13,8 @@ const THREAD: Actor = Actor::Thread(0);
 
 const WORKER: Actor = Actor::Worker(0);
 
-/// An object becomes the head of a list: register `head` names it, and it refers to the object that
-/// register `tail` names.
+/// An object becomes the head of a list: register `head` refers to it, and it refers to the object of register
+/// `tail`.
 fn push(book: &mut Book, head: u32, tail: u32) -> Result<(), Refusal> {
     let (target, layout) = (head, 0);
     act(book, THREAD, Step::New { target, layout })?;
@@ -35,22 +35,21 @@ fn start(book: &mut Book) -> Result<(), Refusal> {
     Ok(())
 }
 
-/// A whole mark; `replies` has what its drain said.
+/// Does a complete mark; `replies` gets those of its drain.
 fn mark(book: &mut Book, replies: &mut Vec<Result<Answer, Refusal>>) -> Result<Answer, Refusal> {
     start(book)?;
     book.drain(0, replies)?;
     act(book, WORKER, Step::EndMark)
 }
 
-/// An object that refers to itself, in register 0, behind one that nobody names, with a buffer of a whole
-/// page of 16 words.
+/// An object that refers to itself, in register 0, after a garbage one, with a buffer of a complete page of 16 words.
 fn ring(book: &mut Book) -> Result<(), Refusal> {
     act(book, THREAD, Step::Take(16))?;
     push(book, 0, 0)?;
     push(book, 0, 0)
 }
 
-/// A drain is refused before all have crossed, and what was refused is its last reply.
+/// A drain is rejected before all have crossed, and the error is its last reply.
 fn refuses_early(
     rt: &impl Abort,
     mut held: impl HeldBook + Drop,
@@ -71,7 +70,7 @@ fn a_drain_before_the_last_crossing(rt: HostRuntime) -> Result<(), Fail> {
     Ok(())
 }
 
-/// A whole mark of such a page.
+/// A complete mark of such a page.
 fn marks_a_ring(
     mut held: impl HeldBook + Drop,
     replies: &mut Vec<Result<Answer, Refusal>>,
@@ -84,8 +83,8 @@ fn marks_a_ring(
 /// How many globals there are. Each takes one step.
 const GLOBALS: usize = 64;
 
-/// One object is marked, behind the globals: it takes one step to be picked, one for its reference, and one
-/// to end its scan.
+/// One object is marked, after the globals: it takes one step to be picked, one for its reference, and one to end its
+/// scan.
 fn have_drained(rt: &impl Abort, ended: Answer, replies: &[Result<Answer, Refusal>]) {
     let one = Answer::Ended {
         live: 1,

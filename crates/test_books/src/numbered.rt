@@ -1,4 +1,4 @@
-//! The pieces that a page is copied in have the numbers from 0 on, each once, to any depth.
+//! The pieces in which a page is copied have the numbers from 0 on, each once, to any depth.
 
 use crate::halving::{copied, is_empty, new_book, protect};
 use crate::same::same;
@@ -9,8 +9,8 @@ use std::test::Fail;
 use std::thread::Threads;
 use test_support_books::HeldBook;
 
-/// What was told of pieces: how many have begun, and the sum of a bit for each, at the place of its
-/// number. Of so many pieces as the sum has bits each has another number.
+/// Which pieces have begun: their number, and the sum of the bit at the place of each piece's number. If the sum has
+/// as many bits as pieces have begun, their numbers differ.
 #[derive(Drop)]
 struct Numbers {
     begun: AtomicU64,
@@ -24,7 +24,7 @@ impl PieceGate for Numbers {
     }
 }
 
-/// Nothing has begun yet.
+/// Returns the state before any piece has begun.
 fn nothing_begun() -> Numbers {
     Numbers {
         begun: AtomicU64::new(0),
@@ -32,7 +32,7 @@ fn nothing_begun() -> Numbers {
     }
 }
 
-/// Whether so many pieces have begun, each once, with the numbers from 0 on.
+/// Returns whether `pieces` pieces have begun, each once, with the numbers from 0 on.
 fn are_numbered(numbers: &Numbers, pieces: u32) -> bool {
     let bits = (1u64 << pieces.min(63)) - 1;
     let begun = numbers.begun.load(Ordering::SeqCst);
@@ -44,9 +44,8 @@ fn copy_by(rt: &(impl Threads + Sync), book: &mut Book, depth: u32, gate: &Numbe
     book.copy_page_by(rt, 0, 2, depth, gate)
 }
 
-/// Four objects of page 1 and five of page 2 go to two targets: the first one of page 2 behind those of
-/// page 1, and four to the next. So page 2 is copied in two runs of so many pieces each, of which some
-/// are empty.
+/// Four objects of page 1 and five of page 2 go to two targets: the first one of page 2 after those of page 1, and
+/// four to the next. So page 2 is copied in two runs of up to `pieces` pieces each, some of which are empty.
 fn begins(
     rt: &(impl Abort + Threads + Sync),
     mut held: impl HeldBook + Drop,
@@ -73,7 +72,7 @@ fn pieces_of_each_depth(rt: HostRuntime) -> Result<(), Fail> {
     Ok(())
 }
 
-/// Whether pieces of these numbers would have passed as three.
+/// Returns whether pieces of these numbers would pass as three.
 fn pass(pieces: &[u32]) -> bool {
     let gate = nothing_begun();
     for piece in pieces {
@@ -82,7 +81,7 @@ fn pass(pieces: &[u32]) -> bool {
     are_numbered(&gate, 3)
 }
 
-/// The test above sees wrong numbers: one that is missing, told twice, too high or counted from 1.
+/// The test above detects wrong numbers: one that is missing, used twice, too high or counted from 1.
 #[test]
 fn wrong_numbers_are_seen(rt: HostRuntime) {
     assert!(rt; pass(&[2, 0, 1]));

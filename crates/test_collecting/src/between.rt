@@ -8,14 +8,14 @@ use std::alloc::Global;
 use std::process::Abort;
 use std::test::Fail;
 
-/// More parts than a collection of this heap takes.
+/// More parts than a collection of this heap has.
 const PARTS: u32 = 90;
 
 fn new_heap(alloc: Global) -> Result<ManagedHeap, Fail> {
     heap_of(alloc, 48)
 }
 
-/// So many parts, each of one object or one page.
+/// Does `count` parts, each of one object or one page.
 fn collect(
     alloc: Global,
     heap: &mut impl Holding,
@@ -28,7 +28,7 @@ fn collect(
     Ok(())
 }
 
-/// Behind so many parts an object goes into the list; behind some more collections the list is whole.
+/// After some parts an object is added to the list; after some more collections the list is complete.
 fn stays(
     rt: &impl Abort,
     alloc: Global,
@@ -54,7 +54,7 @@ fn one_load_between(rt: HostRuntime) -> Result<(), Fail> {
     Ok(())
 }
 
-/// Behind each part an object goes into the list, and the list is whole.
+/// After each part an object is added to the list, and the list is complete.
 fn goes_on(rt: &impl Abort, alloc: Global, mut heap: impl Holding + Drop) -> Result<(), Fail> {
     let mut parts = Parts::new(alloc);
     insert_all(alloc, &mut heap)?;

@@ -1,4 +1,4 @@
-//! Pages that parts of a collection choose, and buffers where page numbers lack.
+//! The pages that parts of a collection choose, and buffers when no page number is free.
 
 use crate::same::same;
 use collecting::{Collected, Holding, Parts, Policy};
@@ -11,17 +11,17 @@ use test_support_heaps::new_heap;
 
 const ME: u32 = 0;
 
-/// The pages of the heap, all of which are filled, and as many frames.
+/// The pages of the heap, all of which are filled, and the frames, which are as many.
 const PAGES: u32 = 8;
 
-/// The register of a new object. Lower ones keep a page each.
+/// The register of a new object. Lower ones refer to objects of a page each.
 const NEW: u32 = PAGES;
 
-/// A heap that is held, whose pages are looked at.
+/// A heap whose pages are read.
 trait Paged: Holding {
     fn free_frames(&self) -> u32;
 
-    /// Whether a page, by its number from 1, was emptied.
+    /// Returns whether a page, by its number from 1, was emptied.
     fn is_gone(&self, page: u32) -> bool;
 }
 
@@ -35,7 +35,7 @@ impl Paged for ManagedHeap {
     }
 }
 
-/// Five objects, which fill a page. The last one stays in a register; with `keep_all` the others are kept by it.
+/// Five objects, which fill a page. The last one stays in a register; with `keep_all` it refers to the others.
 fn fill(heap: &mut impl Paged, register: u32, keep_all: bool) -> Result<(), Refusal> {
     heap.take(ME, 16)?;
     for _ in 0..5 {
@@ -49,7 +49,7 @@ fn fill(heap: &mut impl Paged, register: u32, keep_all: bool) -> Result<(), Refu
     heap.give_back(ME)
 }
 
-/// All pages are filled: of the first one nothing is live, of the last one a single object, and the others are full.
+/// All pages are filled: the first one has no live object, the last one a single one, and the others are full.
 fn fill_all(heap: &mut impl Paged) -> Result<(), Refusal> {
     fill(heap, 0, false)?;
     heap.clear_register(ME, 0)?;
@@ -59,7 +59,7 @@ fn fill_all(heap: &mut impl Paged) -> Result<(), Refusal> {
     fill(heap, 0, false)
 }
 
-/// A collection in parts with this budget, of at most so many. True where it has ended.
+/// Does a collection in parts with this budget, up to `most` parts. Returns whether it has ended.
 fn collect(
     alloc: Global,
     heap: &mut impl Paged,
@@ -75,7 +75,7 @@ fn collect(
     Ok(false)
 }
 
-/// The first collection empties the first page, as there is no room for an object of another one; the second one
+/// The first collection empties the first page, as there is no space for an object of another one; the second one
 /// empties the last page, into the one frame that is free.
 fn empties(
     rt: &impl Abort,
@@ -112,7 +112,7 @@ fn sparse_pages_by_turns(rt: HostRuntime) -> Result<(), Fail> {
     Ok(())
 }
 
-/// Nothing is live on any page: one collection in parts empties them all.
+/// No page has a live object: one collection in parts empties them all.
 fn empties_dead(
     rt: &impl Abort,
     alloc: Global,
@@ -141,8 +141,8 @@ fn dead_pages_by_one_collection(rt: HostRuntime) -> Result<(), Fail> {
     Ok(())
 }
 
-/// Behind a collection that has emptied all pages no number is free. A buffer is there all the same, also for a thread
-/// that has one.
+/// After a collection that has emptied all pages no number is free. A buffer can be taken nevertheless, also by a
+/// thread that has one.
 fn refills(rt: &impl Abort, alloc: Global, mut heap: impl Paged + Drop) -> Result<(), Fail> {
     let policy = Policy {
         words: 16,

@@ -1,4 +1,4 @@
-//! How many parts a collection has.
+//! The number of parts of a collection.
 
 use crate::listing::{LIVE, check, heap_of, insert_all};
 use crate::same::same;
@@ -11,29 +11,29 @@ use std::test::Fail;
 /// The page numbers of the heap.
 const PAGES: u32 = 48;
 
-/// The pages that the list is on, with what is dead: 39 objects, of which a page has room for 5.
+/// The pages that the list is on, with garbage: 39 objects, 5 to a page.
 const USED: u32 = 8;
 
 /// The frames that are prepared: for 60 live words, and a sixteenth more.
 const FRAMES: u32 = 4;
 
-/// How many whole times a part is in a number.
+/// Returns how often a part fits in a number.
 fn quotient(number: u32, part: u32) -> u32 {
     number.checked_div(part).unwrap_or(0)
 }
 
-/// How many parts prepare frames. A part prepares one more than have 32 words for each object, and of each two parts
-/// one may find that a frame was taken meanwhile.
+/// Returns how many parts prepare frames. A part prepares one more than have 32 words for each object, and of each
+/// two parts one may find that a frame was taken meanwhile.
 fn preparings(budget: u32) -> u32 {
     let by = budget.wrapping_mul(4);
     quotient(FRAMES.wrapping_mul(2).wrapping_add(by), by.wrapping_add(1))
 }
 
-/// The most parts that a collection may take with this budget. One begins the mark, and has all threads cross.
-/// Each scan is of `budget` objects, and the last one, which finds fewer, ends the mark. Each look is at `each`
-/// pages of 16 words: as many as have 64 words for each object, and one more; the last one finds fewer. Some prepare
-/// frames, and one protects the pages that have room. Each of these is emptied by a part of its own, and one part finds
-/// none left.
+/// Returns the greatest number of parts of a collection with this budget. One begins the mark, and has all threads
+/// cross. Each scan is of `budget` objects, and the last one, which finds fewer, ends the mark. Each part that
+/// measures reads `each` pages of 16 words: as many as have 64 words for each object, and one more; the last one
+/// finds fewer. Some prepare frames, and one protects the pages for which there is space. Each of these is emptied by
+/// a part of its own, and one part finds none left.
 fn most_parts(budget: u32) -> u32 {
     let each = budget.wrapping_mul(4).wrapping_add(1);
     let scans = quotient(LIVE, budget).wrapping_add(1);
@@ -47,7 +47,7 @@ fn most_parts(budget: u32) -> u32 {
         .wrapping_add(1)
 }
 
-/// The parts of one collection, of which at most so many are done. Gives how many there were, the last one with it.
+/// Does the parts of one collection, up to a limit. Returns how many there were, including the last one.
 pub fn count_parts(
     alloc: Global,
     heap: &mut impl Holding,
@@ -63,7 +63,7 @@ pub fn count_parts(
     Ok(most.wrapping_add(1))
 }
 
-/// So many collections, each of which has an end within its parts. Gives how many parts they had.
+/// Does several collections, each of which ends within its parts. Returns how many parts they had.
 fn collections(
     rt: &impl Abort,
     alloc: Global,
@@ -82,8 +82,8 @@ fn collections(
     Ok(sum)
 }
 
-/// Four collections of a list beside which as many objects are dead, with this budget. Gives how many parts the first
-/// one had.
+/// Four collections of a list among as many garbage objects, with this budget. Returns how many parts the first one
+/// had.
 fn counts(
     rt: &impl Abort,
     alloc: Global,
@@ -97,8 +97,8 @@ fn counts(
     Ok(first)
 }
 
-/// The first collection with this budget has just so many parts, which are as many as it may have: there is
-/// enough to be emptied.
+/// The first collection with this budget has exactly this many parts, which is the greatest number: there is enough
+/// to be emptied.
 fn takes(rt: &impl Abort, alloc: Global, budget: u32, wanted: u32) -> Result<(), Fail> {
     let found = counts(rt, alloc, heap_of(alloc, PAGES)?, budget)?;
     same(rt, found, wanted);

@@ -1,5 +1,5 @@
-//! Tests of heaps that a program holds: marks, collections in parts, several steps by one call, buffers by the policy,
-//! and the smallest heaps.
+//! Tests of the heap of a program: marks, collections in parts, several steps by one call, buffers by the policy, and
+//! the smallest heaps.
 #![tactic(auto)]
 
 #[cfg(test)]

@@ -1,4 +1,4 @@
-//! A list in a heap of several threads, of which each second object is dead.
+//! A list in a heap of several threads, in which every second object is garbage.
 
 use crate::same::same;
 use collecting::{Holding, Policy};
@@ -13,7 +13,7 @@ use std::test::Fail;
 /// The thread that has the list. Others only cross.
 const ME: u32 = 0;
 
-/// Registers: the list's head, the object behind it, and a new one.
+/// Registers: the list's head, the object after it, and a new one.
 const HEAD: u32 = 0;
 
 const BEHIND: u32 = 1;
@@ -42,13 +42,13 @@ pub fn heap_of(alloc: Global, pages: u32) -> Result<ManagedHeap, Fail> {
     Ok(ManagedHeap::new(alloc, config)?)
 }
 
-/// A new object of this datum, in the register `NEW`.
+/// Allocates an object with this datum, in the register `NEW`.
 fn make(alloc: Global, heap: &mut impl Holding, datum: u64) -> Result<(), Refusal> {
     heap.make(alloc, POLICY, ME, NEW, 0)?;
     heap.set_datum(ME, NEW, 0, datum)
 }
 
-/// A new object of this datum goes behind the head, before the one that was there: a load and two stores.
+/// Inserts a new object with this datum after the head: a load and two stores.
 pub fn insert(alloc: Global, heap: &mut impl Holding, datum: u64) -> Result<(), Refusal> {
     make(alloc, heap, datum)?;
     heap.read(ME, BEHIND, HEAD, 0)?;
@@ -58,7 +58,7 @@ pub fn insert(alloc: Global, heap: &mut impl Holding, datum: u64) -> Result<(), 
     heap.clear_register(ME, NEW)
 }
 
-/// The list: its head, and the others by rising data, beside each of which one is made that nobody keeps.
+/// Makes the list: its head, and the others by rising data, with a garbage object after each.
 pub fn insert_all(alloc: Global, heap: &mut impl Holding) -> Result<(), Refusal> {
     make(alloc, heap, HEADS)?;
     heap.copy_register(ME, HEAD, NEW)?;
@@ -70,7 +70,7 @@ pub fn insert_all(alloc: Global, heap: &mut impl Holding) -> Result<(), Refusal>
     heap.give_back(ME)
 }
 
-/// The list has so many objects, with their data by falling numbers behind the head.
+/// The list has `count` objects, with their data by falling numbers after the head.
 pub fn check(rt: &impl Abort, heap: &mut impl Holding, count: u32) -> Result<(), Refusal> {
     same(rt, heap.datum(ME, HEAD, 0), Ok(HEADS));
     heap.copy_register(ME, BEHIND, HEAD)?;

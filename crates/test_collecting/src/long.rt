@@ -1,4 +1,4 @@
-//! Scans in parts of objects with many references.
+//! Scans in parts, of objects with many references.
 
 use crate::counting::count_parts;
 use crate::same::same;
@@ -19,7 +19,7 @@ const HEAD: u32 = 0;
 
 const NEW: u32 = 1;
 
-/// Buffers of a page, which has room for one object.
+/// Buffers of a page, which has space for one object.
 const POLICY: Policy = Policy {
     words: 1024,
     free: 0,
@@ -37,7 +37,7 @@ fn heap_of(alloc: Global) -> Result<ManagedHeap, Fail> {
     Ok(ManagedHeap::new(alloc, Config::new(1024, 16, layouts))?)
 }
 
-/// A list of so many objects, each of which leads to the next one by its first reference.
+/// Makes a list of `count` objects, each of which refers to the next one by its first reference.
 fn link_all(alloc: Global, heap: &mut impl Holding, count: u32) -> Result<(), Refusal> {
     for _ in 0..count {
         heap.make(alloc, POLICY, ME, NEW, 0)?;
@@ -48,7 +48,7 @@ fn link_all(alloc: Global, heap: &mut impl Holding, count: u32) -> Result<(), Re
     heap.give_back(ME)
 }
 
-/// A list of 8 objects is collected in just so many parts.
+/// A list of 8 objects is collected in exactly this many parts.
 fn takes(
     rt: &impl Abort,
     alloc: Global,
@@ -63,9 +63,9 @@ fn takes(
     Ok(())
 }
 
-/// With a budget of 20, two objects make the 1,280 references with which a part ends. So there is a part that begins
-/// the mark, four of two objects, one that finds none and ends the mark, one for each two of 32 page numbers, one that
-/// finds no further one, and one that finds no page which is worth it.
+/// With a budget of 20, two objects have the 1,280 references after which a part ends. So there is a part that begins
+/// the mark, four of two objects, one that finds none and ends the mark, one for each two of 32 page numbers, one
+/// that finds no further one, and one that finds no page to be emptied.
 #[test]
 fn parts_end_behind_many_references(rt: HostRuntime) -> Result<(), Fail> {
     takes(&rt, rt.alloc(), heap_of(rt.alloc())?, 20, 24)

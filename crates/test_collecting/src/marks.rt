@@ -1,4 +1,4 @@
-//! Marks that run while objects are still to be copied, and while the worker has an object.
+//! Marks that run while objects are uncopied, and while the worker is scanning an object.
 
 use crate::same::same;
 use collecting::{Collected, Holding, Parts};
@@ -15,22 +15,22 @@ const HEAD: u32 = 0;
 
 const NEXT: u32 = 1;
 
-/// What these tests ask of a heap beside `Holding`. It promises nothing, so that the proofs of tests are
+/// The calls of these tests on a heap besides `Holding`. They have no contracts, so that the proofs of tests are
 /// short.
 trait Marking: Holding {
-    /// A step of worker 0.
+    /// Does a step of worker 0.
     fn work(&mut self, step: &Step) -> Result<(), Refusal>;
 
-    /// At most so many scans of worker 0.
+    /// Does at most `most` scans of worker 0.
     fn scan(&mut self, most: u64) -> Result<bool, Refusal>;
 
-    /// A whole drain by worker 0.
+    /// Does a complete drain by worker 0.
     fn drain(&mut self) -> Result<(), Refusal>;
 
-    /// What is left of a mark, by worker 0.
+    /// Does the rest of a mark, by worker 0.
     fn finish_mark(&mut self) -> Result<u64, Refusal>;
 
-    /// How many objects are still to be copied, and whether worker 0 has an object.
+    /// Returns how many objects are uncopied, and whether worker 0 is scanning an object.
     fn progress(&self) -> (u64, bool);
 }
 
@@ -79,9 +79,8 @@ fn fill(heap: &mut impl Marking) -> Result<(), Refusal> {
     heap.clear_register(ME, NEXT)
 }
 
-/// That list, of which the pages were protected, in a mark that the thread has crossed. Worker 0 has marked
-/// the 64 globals and has the head of the list, which the crossing has copied; nine objects are still to be
-/// copied.
+/// That list, whose pages were protected, in a mark that the thread has crossed. Worker 0 has marked the 64 globals
+/// and is scanning the head of the list, which the crossing has copied; nine objects are uncopied.
 fn mark_halfway(rt: &impl Abort, alloc: Global, heap: &mut impl Marking) -> Result<(), Fail> {
     fill(heap)?;
     heap.work(&Step::StartMark)?;
@@ -106,7 +105,7 @@ fn is_whole(rt: &impl Abort, heap: &mut impl Marking) -> Result<(), Fail> {
     Ok(())
 }
 
-/// A drain copies what is left, and scans the rest.
+/// A drain copies the uncopied objects, and scans the grey ones.
 fn drains(rt: &impl Abort, alloc: Global, mut heap: impl Marking + Drop) -> Result<(), Fail> {
     mark_halfway(rt, alloc, &mut heap)?;
     same(rt, heap.drain(), Ok(()));
@@ -120,12 +119,12 @@ fn drain_copies_first(rt: HostRuntime) -> Result<(), Fail> {
     drains(&rt, rt.alloc(), new_heap(rt.alloc(), 8, 16)?)
 }
 
-/// The next part of a collection. True where it has ended.
+/// Does the next part of a collection. Returns whether it has ended.
 fn part(alloc: Global, heap: &mut impl Marking, parts: &mut Parts) -> Result<bool, Refusal> {
     heap.collect_some(alloc, parts, 50, 1)
 }
 
-/// Parts do the same, one after another: the object that the worker has, and each page.
+/// Parts do the same, one after another: the object that the worker is scanning, and each page.
 fn goes_by_parts(
     rt: &impl Abort,
     alloc: Global,
@@ -147,7 +146,7 @@ fn parts_copy_first(rt: HostRuntime) -> Result<(), Fail> {
     goes_by_parts(&rt, rt.alloc(), new_heap(rt.alloc(), 8, 16)?)
 }
 
-/// A collection that comes in the middle ends that mark.
+/// A collection in the middle of that mark ends it.
 fn collects(rt: &impl Abort, alloc: Global, mut heap: impl Marking + Drop) -> Result<(), Fail> {
     mark_halfway(rt, alloc, &mut heap)?;
     let none = Collected {

@@ -14,7 +14,7 @@ const KEPT: u32 = 0;
 
 const LOST: u32 = 1;
 
-/// Parts up to the end of a collection, at most so many. Gives how many they were.
+/// Does parts up to the end of a collection, up to a limit. Returns how many they were.
 fn collect(
     alloc: Global,
     heap: &mut impl Holding,
@@ -29,7 +29,7 @@ fn collect(
     Ok(most)
 }
 
-/// Objects are made between the parts, and one is kept; each collection ends.
+/// Objects are allocated between the parts, and one is kept; each collection ends.
 fn goes_on(rt: &impl Abort, alloc: Global, mut heap: impl Holding + Drop) -> Result<(), Fail> {
     let policy = Policy::usual(16, 8);
     let mut parts = Parts::new(alloc);

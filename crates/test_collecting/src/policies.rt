@@ -11,10 +11,10 @@ use test_support_heaps::new_heap;
 
 const ME: u32 = 0;
 
-/// The register of what is made, and kept by nobody else.
+/// The register of a new object, to which nothing else refers.
 const LOST: u32 = 0;
 
-/// A heap that is held, whose free frames are counted.
+/// A heap whose free frames are counted.
 trait Framed: Holding {
     fn free_frames(&self) -> u32;
 }
@@ -25,7 +25,7 @@ impl Framed for ManagedHeap {
     }
 }
 
-/// Buffers of a page of 16 words, for which a heap is collected where at most so many frames are free.
+/// Buffers of a page of 16 words, for which a heap is collected if at most `free` frames are free.
 fn policy(free: u32) -> Policy {
     Policy {
         words: 16,
@@ -34,7 +34,7 @@ fn policy(free: u32) -> Policy {
     }
 }
 
-/// Makes so many objects that nobody keeps, not even in a register. Gives how few frames were free at least.
+/// Allocates `count` garbage objects, not even kept in a register. Returns the fewest frames that were free.
 fn waste(alloc: Global, heap: &mut impl Framed, free: u32, count: u32) -> Result<u32, Refusal> {
     let mut least = u32::MAX;
     for _ in 0..count {
@@ -45,7 +45,7 @@ fn waste(alloc: Global, heap: &mut impl Framed, free: u32, count: u32) -> Result
     Ok(least)
 }
 
-/// Where a heap of eight frames is collected at four free ones, so many are never taken.
+/// If a heap of eight frames is collected at four free ones, these four are never taken.
 fn collects(rt: &impl Abort, alloc: Global, mut heap: impl Framed + Drop) -> Result<(), Fail> {
     same(rt, waste(alloc, &mut heap, 4, 200), Ok(4));
     Ok(())
@@ -56,7 +56,7 @@ fn where_the_policy_says(rt: HostRuntime) -> Result<(), Fail> {
     collects(&rt, rt.alloc(), new_heap(rt.alloc(), 8, 16)?)
 }
 
-/// Where it is collected at one free frame, six pages of five objects are all there behind them.
+/// If it is collected at one free frame, six pages of five objects are all there after them.
 fn waits(rt: &impl Abort, alloc: Global, mut heap: impl Framed + Drop) -> Result<(), Fail> {
     same(rt, waste(alloc, &mut heap, 1, 30), Ok(2));
     same(rt, heap.free_frames(), 2);
@@ -68,8 +68,8 @@ fn only_there(rt: HostRuntime) -> Result<(), Fail> {
     waits(&rt, rt.alloc(), new_heap(rt.alloc(), 8, 16)?)
 }
 
-/// Makes `count` objects that nobody keeps, while the heap is collected in parts. Returns the fewest frames that were
-/// free after one.
+/// Allocates `count` garbage objects, while the heap is collected in parts. Returns the fewest frames that were free
+/// after one.
 fn waste_paced(alloc: Global, heap: &mut impl Framed, count: u32) -> Result<u32, Refusal> {
     let mut parts = Parts::new(alloc);
     let mut least = u32::MAX;
@@ -81,7 +81,7 @@ fn waste_paced(alloc: Global, heap: &mut impl Framed, count: u32) -> Result<u32,
     Ok(least)
 }
 
-/// The same of objects that are filled.
+/// The same with objects that are filled.
 fn waste_filled(alloc: Global, heap: &mut impl Framed, count: u32) -> Result<u32, Refusal> {
     let mut parts = Parts::new(alloc);
     let mut least = u32::MAX;
@@ -93,8 +93,8 @@ fn waste_filled(alloc: Global, heap: &mut impl Framed, count: u32) -> Result<u32
     Ok(least)
 }
 
-/// Frames are taken while the heap is collected in parts, which ends while many are left: a complete collection waits
-/// until at most eight are, a quarter of those that the policy asks for.
+/// Frames are taken while the heap is collected in parts, which ends while many are left: a complete collection is
+/// done only if at most eight are free, a quarter of the policy's number.
 fn paces(rt: &impl Abort, alloc: Global, mut heap: impl Framed + Drop) -> Result<(), Fail> {
     let least = waste_paced(alloc, &mut heap, 5000)?;
     assert!(rt;

@@ -1,4 +1,4 @@
-//! Reports of a heap that a program holds.
+//! Reports of the heap of a program.
 
 use crate::same::same;
 use collecting::Holding;
@@ -11,7 +11,7 @@ use std::alloc::Global;
 use std::process::Abort;
 use std::test::Fail;
 
-/// A heap that is held, of which a report can be written.
+/// A heap of which a report can be written.
 trait Told: Holding {
     fn told(&self, alloc: Global) -> Result<Vec<u8>, Fail>;
 }
@@ -50,7 +50,7 @@ barrier 0 loads 0 gc 0 nmt 0 healed 0 changed 0
 barrier 1 loads 0 gc 0 nmt 0 healed 0 changed 0
 ";
 
-/// Thread 0 has made two objects, of which the first is in the global, and has loaded it; thread 1 has parked.
+/// Thread 0 has allocated two objects, the first of which is in the global, and has loaded it; thread 1 has parked.
 const USED: &str = "phase idle nmt 0 births 2 frames 1/2
 page 1 open frame 0 top 16 objects 2 live 0
 thread 0 running buffer 1.6-16 r0 1.0/0 r1 1.0/0

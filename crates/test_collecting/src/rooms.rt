@@ -1,4 +1,4 @@
-//! Objects that are made in small heaps, for which these are collected.
+//! Objects that are allocated in small heaps, which are collected for them.
 
 use crate::same::same;
 use collecting::{Collected, Holding, Object, Policy};
@@ -16,7 +16,7 @@ const KEPT: u32 = 0;
 
 const LOST: u32 = 1;
 
-/// Makes so many objects that nobody keeps, not even in a register.
+/// Allocates `count` garbage objects, not even kept in a register.
 fn waste_all(
     alloc: Global,
     heap: &mut impl Holding,
@@ -30,7 +30,7 @@ fn waste_all(
     Ok(())
 }
 
-/// Makes so many objects that nobody keeps, but for the last one.
+/// Allocates `count` garbage objects, except the last one.
 fn waste(alloc: Global, heap: &mut impl Holding, frames: u32, count: u32) -> Result<(), Refusal> {
     for _ in 0..count {
         heap.make(alloc, Policy::usual(16, frames), ME, LOST, 0)?;
@@ -38,7 +38,7 @@ fn waste(alloc: Global, heap: &mut impl Holding, frames: u32, count: u32) -> Res
     Ok(())
 }
 
-/// What nobody keeps can be made for ever.
+/// Garbage objects can be allocated for ever.
 fn wastes_all(
     rt: &impl Abort,
     alloc: Global,
@@ -49,7 +49,7 @@ fn wastes_all(
     Ok(())
 }
 
-/// So can what nobody keeps but for the last one.
+/// So can garbage objects, except for the last one, which is kept.
 fn wastes(
     rt: &impl Abort,
     alloc: Global,
@@ -81,7 +81,7 @@ fn more_frames(rt: HostRuntime) -> Result<(), Fail> {
     Ok(())
 }
 
-/// An object is kept among those that aren't, and it moves.
+/// An object is kept among garbage, and it moves.
 fn keeps(rt: &impl Abort, alloc: Global, mut heap: impl Holding + Drop) -> Result<(), Fail> {
     let policy = Policy::usual(16, 3);
     same(rt, heap.make(alloc, policy, ME, KEPT, 0), Ok(0));
@@ -104,7 +104,7 @@ fn one_is_kept(rt: HostRuntime) -> Result<(), Fail> {
     keeps(&rt, rt.alloc(), new_heap(rt.alloc(), 3, 6)?)
 }
 
-/// A list of objects, each of which is kept by the next: the heap is full at last, and stays so.
+/// A list of objects, each of which the next refers to: at last the heap is full, and stays so.
 fn fills(rt: &impl Abort, alloc: Global, mut heap: impl Holding + Drop) -> Result<(), Fail> {
     let policy = Policy::usual(16, 3);
     for _ in 0..15 {
@@ -134,7 +134,7 @@ fn full(rt: HostRuntime) -> Result<(), Fail> {
     fills(&rt, rt.alloc(), new_heap(rt.alloc(), 3, 6)?)
 }
 
-/// A thread inside a load keeps a collection from its end; behind the load it goes on.
+/// A thread inside a load prevents the end of a collection; after the load it continues.
 fn waits(rt: &impl Abort, alloc: Global, mut heap: impl Holding + Drop) -> Result<(), Fail> {
     heap.make(alloc, Policy::usual(16, 3), ME, KEPT, 0)?;
     heap.load(ME, LOST, KEPT, 0)?;

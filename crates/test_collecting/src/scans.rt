@@ -1,4 +1,4 @@
-//! Scans of a held heap, step by step.
+//! Scans of a managed heap, step by step.
 
 use crate::listing::{LIVE, check, heap_of, insert_all};
 use crate::same::same;
@@ -12,12 +12,12 @@ use std::test::Fail;
 /// The globals of the heap.
 const GLOBALS: u32 = 64;
 
-/// A heap that is held, and marked by steps.
+/// A heap that is marked by steps.
 trait Marked: Holding {
-    /// A step of worker 0.
+    /// Does a step of worker 0.
     fn work(&mut self, step: Step) -> Result<(), Refusal>;
 
-    /// One step of worker 0, which scans. True where nothing is left.
+    /// Does one step of worker 0 that scans. Returns whether nothing is left.
     fn scan_one(&mut self) -> Result<bool, Refusal>;
 }
 
@@ -32,7 +32,7 @@ impl Marked for ManagedHeap {
     }
 }
 
-/// Scans until nothing is left, at most so often. Gives how many steps that took.
+/// Scans until nothing is left, up to a limit of steps. Returns how many steps that took.
 fn scan_all(heap: &mut impl Marked, most: u32) -> Result<u32, Refusal> {
     for done in 0..most {
         if heap.scan_one()? {
@@ -42,7 +42,7 @@ fn scan_all(heap: &mut impl Marked, most: u32) -> Result<u32, Refusal> {
     Ok(most)
 }
 
-/// A mark by steps: each global takes one; each object of a list is picked, and its one reference takes two.
+/// A mark by steps: each global takes one; each object of a list is picked in one, and its one reference takes two.
 fn marks(rt: &impl Abort, alloc: Global, mut heap: impl Marked + Drop) -> Result<(), Fail> {
     insert_all(alloc, &mut heap)?;
     heap.work(Step::StartMark)?;

@@ -1,4 +1,4 @@
-//! How much a heap uses until it is collected, and what memory it keeps.
+//! How many frames a heap uses until it is collected, and whose memory it keeps.
 
 use crate::same::same;
 use collecting::{Holding, Policy, Target};
@@ -11,20 +11,20 @@ use test_support_heaps::new_heap;
 
 const ME: u32 = 0;
 
-/// The register of what is made, and kept by nobody else.
+/// The register of a new object, to which nothing else refers.
 const LOST: u32 = 0;
 
-/// The frames that the heaps here may use at most.
+/// The greatest number of frames that the heaps here may use.
 const MOST: u32 = 64;
 
-/// Buffers of a page of 16 words, for which a heap is collected where at most one frame is free.
+/// Buffers of a page of 16 words, for which a heap is collected if at most one frame is free.
 const POLICY: Policy = Policy {
     words: 16,
     free: 1,
     percent: 75,
 };
 
-/// A target is told so many frames, and allows so many then: it was set, or not.
+/// A target gets this number of used frames, and allows `frames` then: it was set, or not.
 fn follows(rt: &impl Abort, target: &mut Target, used: u32, set: bool, frames: u32) {
     same(rt, target.follow(used), set);
     same(rt, target.frames(), frames);
@@ -55,7 +55,7 @@ fn a_policy_by_a_target(rt: HostRuntime) -> Result<(), Fail> {
     Ok(())
 }
 
-/// A heap that is held, whose used frames are counted.
+/// A heap whose used frames are counted.
 trait Framed: Holding {
     fn used_frames(&self) -> usize;
 }
@@ -66,7 +66,7 @@ impl Framed for ManagedHeap {
     }
 }
 
-/// Makes objects that nobody keeps, by a target. Returns how many frames were used at most.
+/// Allocates garbage objects, by a target. Returns the most frames that were used.
 fn waste(alloc: Global, heap: &mut impl Framed, target: &mut Target) -> Result<usize, Refusal> {
     let mut most = 0;
     for _ in 0..500 {
@@ -78,7 +78,7 @@ fn waste(alloc: Global, heap: &mut impl Framed, target: &mut Target) -> Result<u
     Ok(most)
 }
 
-/// Where nothing lives, a heap of 64 frames uses what its target says, and keeps no more memory.
+/// If nothing is live, a heap of 64 frames uses what its target allows, and keeps no more memory.
 fn stays_small(rt: &impl Abort, alloc: Global, mut heap: impl Framed + Drop) -> Result<(), Fail> {
     let mut target = Target::new(6, 0);
     heap.follow(&mut target);
@@ -92,7 +92,7 @@ fn a_heap_uses_what_its_target_says(rt: HostRuntime) -> Result<(), Fail> {
     stays_small(&rt, rt.alloc(), new_heap(rt.alloc(), MOST, 128)?)
 }
 
-/// Memory of pages that were emptied is kept until it is given back.
+/// Memory of emptied pages is kept until it is released.
 fn keeps(rt: &impl Abort, alloc: Global, mut heap: impl Framed + Drop) -> Result<(), Fail> {
     let mut target = Target::new(MOST, 0);
     same(rt, heap.kept_frames(), 0);

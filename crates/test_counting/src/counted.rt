@@ -1,4 +1,4 @@
-//! Collections that are counted beside a heap.
+//! Collections that are counted alongside a heap.
 
 use crate::same::same;
 use collecting::{Counters, Counting, Parts, Policy};
@@ -10,10 +10,10 @@ use test_support_heaps::new_heap;
 
 const ME: u32 = 0;
 
-/// The register of what is made, and kept by nobody else.
+/// The register of a new object, to which nothing else refers.
 const LOST: u32 = 0;
 
-/// Buffers of a page of 16 words, for which a heap is collected where at most so many frames are free.
+/// Buffers of a page of 16 words, for which a heap is collected if at most `free` frames are free.
 fn policy(free: u32) -> Policy {
     Policy {
         words: 16,
@@ -22,7 +22,7 @@ fn policy(free: u32) -> Policy {
     }
 }
 
-/// Makes so many objects that nobody keeps, each filled with one number.
+/// Allocates `count` garbage objects, each filled with one number.
 fn waste(
     alloc: Global,
     heap: &mut impl Counting,
@@ -59,7 +59,7 @@ fn collections_are_counted(rt: HostRuntime) -> Result<(), Fail> {
     counts(&rt, rt.alloc(), new_heap(rt.alloc(), 4, 16)?)
 }
 
-/// All parts of a collection, each with a budget of so many objects. Returns how many they are.
+/// Does all parts of a collection, each with this budget. Returns how many they are.
 fn parts_of(
     alloc: Global,
     heap: &mut impl Counting,
@@ -74,7 +74,7 @@ fn parts_of(
     Ok(0)
 }
 
-/// Parts are counted, those that a call asks for and those for a fresh buffer.
+/// Parts are counted, those that a call requests and those for a fresh buffer.
 fn counts_parts(
     rt: &impl Abort,
     alloc: Global,

@@ -1,5 +1,5 @@
-//! Calls that are done in one go: on a heap that isn't collected each of them is, also while a thread has loaded. Their
-//! contracts allow that nothing is done; the call behind each then does it.
+//! Calls that are done in one go: on a heap that isn't collected each of them is, also while a thread has an open
+//! load. Their contracts allow that nothing is done; then the slow call does it.
 
 use crate::same::same;
 use collecting::{Holding, Policy};
@@ -21,7 +21,7 @@ const READ: u32 = 1;
 
 /// A heap whose calls are done in one go.
 trait InOneGo: Holding {
-    /// Whether each call on the object in a register is done.
+    /// Returns whether each call on the object in a register is done.
     fn are_done(&mut self) -> [bool; 6];
 }
 
@@ -38,7 +38,7 @@ impl InOneGo for ManagedHeap {
     }
 }
 
-/// Makes an object of two references and one data word.
+/// Allocates an object of two references and one data word.
 fn make(alloc: Global, heap: &mut impl Holding) -> Result<u64, Refusal> {
     let policy = Policy {
         words: 16,

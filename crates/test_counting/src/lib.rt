@@ -1,5 +1,5 @@
-//! Tests of what a program learns of a heap that it holds: which number of a step is wrong, what collections have come to,
-//! and which calls are done in one go.
+//! Tests of the calls that tell a program about its heap: which number of a step names nothing, the counters of
+//! collections, and which calls are done in one go.
 #![tactic(auto)]
 
 #[cfg(test)]

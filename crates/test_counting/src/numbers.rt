@@ -12,12 +12,12 @@ use test_support_heaps::new_heap;
 
 const ME: u32 = 0;
 
-/// A register with an object of a reference and a datum, and one of which the heap has no such register.
+/// A register with an object of a reference and a datum, and one that the heap doesn't have.
 const HERE: u32 = 0;
 
 const NOWHERE: u32 = 16;
 
-/// The fault of a step that is refused so, after it.
+/// Returns the fault of a step that is rejected with this error.
 fn is_of(
     rt: &impl Abort,
     heap: &ManagedHeap,
@@ -31,7 +31,7 @@ fn is_of(
     }
 }
 
-/// A store is refused for the thread, the object's register, the source or the field.
+/// A store is rejected for the thread, the object's register, the source or the field.
 fn stores(
     rt: &impl Abort,
     heap: &mut ManagedHeap,
@@ -91,7 +91,7 @@ fn of_a_store(rt: HostRuntime) -> Result<(), Fail> {
     Ok(())
 }
 
-/// The number of a step that a refusal as `BadIndex` is for.
+/// A step fails with `BadIndex` for this number.
 fn names(rt: &impl Abort, heap: &ManagedHeap, step: Step, wanted: Number) {
     same(
         rt,
@@ -150,7 +150,7 @@ fn of_each_step(rt: HostRuntime) -> Result<(), Fail> {
     Ok(())
 }
 
-/// A policy is out of its range by this field, or isn't.
+/// A policy is out of its range by this field, or in range.
 fn checks(
     rt: &impl Abort,
     heap: &ManagedHeap,
@@ -179,7 +179,7 @@ fn policies(rt: HostRuntime) -> Result<(), Fail> {
     Ok(())
 }
 
-/// A fault is told so.
+/// A fault has this text.
 fn tells(rt: &impl Abort, alloc: Global, fault: CallFault, wanted: &str) -> Result<(), AllocError> {
     let mut text = String::new(alloc);
     write!(text, "{fault}")?;

@@ -1,4 +1,4 @@
-//! A cache whose entries are replaced one by one, and what its collections come to.
+//! A cache whose entries are replaced one by one, and the counters of its collections.
 
 use crate::same::same;
 use collecting::{Counters, Counting, Parts, Policy};
@@ -44,14 +44,14 @@ fn heap_of(alloc: Global, frames: u32) -> Result<ManagedHeap, Fail> {
     Ok(ManagedHeap::new(alloc, Config::new(64, frames, layouts))?)
 }
 
-/// How a cache is collected: its policy's free frames, and the budget of a part; and what its collections have come to.
+/// How a cache is collected: its policy's free frames, and the budget of a part; and the counters of its collections.
 #[derive(Drop)]
 struct Load {
     free: u32,
     budget: u32,
     parts: Parts,
     counters: Counters,
-    /// The most parts that one object has taken.
+    /// The greatest number of parts for one object.
     most: u64,
 }
 
@@ -65,7 +65,7 @@ fn load_of(alloc: Global, free: u32, budget: u32) -> Load {
     }
 }
 
-/// Makes an object of a layout in a register.
+/// Allocates an object of a layout in a register.
 fn make(
     alloc: Global,
     heap: &mut impl Counting,
@@ -88,7 +88,7 @@ fn make(
     Ok(())
 }
 
-/// A new entry goes to a place of the table.
+/// Replaces an entry in a place of the table.
 fn replace(
     alloc: Global,
     heap: &mut impl Counting,
@@ -101,7 +101,7 @@ fn replace(
     heap.clear_register(ME, ENTRY)
 }
 
-/// A table, with an entry in each place.
+/// Makes a table, with an entry in each place.
 fn fill(alloc: Global, heap: &mut impl Counting, load: &mut Load) -> Result<(), Refusal> {
     make(alloc, heap, load, TABLE, ROWS)?;
     for row in 0..WIDTH {
@@ -114,7 +114,7 @@ fn fill(alloc: Global, heap: &mut impl Counting, load: &mut Load) -> Result<(), 
     Ok(())
 }
 
-/// So many entries are replaced, in places as if by chance.
+/// Replaces `count` entries, in pseudorandom places.
 fn replace_some(
     alloc: Global,
     heap: &mut impl Counting,
@@ -129,8 +129,8 @@ fn replace_some(
     Ok(())
 }
 
-/// A cache in at least one and a half times the frames that live is never collected by one call. Returns the most parts
-/// that one object takes.
+/// A cache in at least one and a half times the frames of its live objects is never collected by one call. Returns
+/// the greatest number of parts for one object.
 fn most_paced(
     rt: &impl Abort,
     alloc: Global,
@@ -146,8 +146,8 @@ fn most_paced(
     Ok(load.most)
 }
 
-/// With these numbers of frames and of free frames, for budgets of 1, 10 and 10,000, an object takes no more parts than
-/// are given.
+/// With these numbers of frames and of free frames, for budgets of 1, 10 and 10,000, an object takes at most this
+/// many parts.
 fn are_paced(
     rt: &impl Abort,
     alloc: Global,
@@ -170,7 +170,7 @@ fn make_never_collects_by_one_call(rt: HostRuntime) -> Result<(), Fail> {
     are_paced(&rt, rt.alloc(), 80, 20, [150, 60, 16])
 }
 
-/// All parts of a collection.
+/// Does all parts of a collection.
 fn collect_in_parts(
     alloc: Global,
     heap: &mut impl Counting,
@@ -184,7 +184,7 @@ fn collect_in_parts(
     Ok(())
 }
 
-/// How many pages a collection of a cache empties: by one call if the budget is 0, else in parts.
+/// Returns how many pages a collection of a cache empties: by one call if the budget is 0, else in parts.
 fn emptied(alloc: Global, mut heap: impl Counting + Drop, budget: u32) -> Result<u64, Refusal> {
     let mut load = load_of(alloc, 0, budget);
     fill(alloc, &mut heap, &mut load)?;
@@ -210,7 +210,7 @@ fn parts_free_what_one_call_frees(rt: HostRuntime) -> Result<(), Fail> {
     Ok(())
 }
 
-/// Entries are kept, each by the next one, until no frame is left. Returns how many they are.
+/// Keeps entries, each by the next one, until no frame is left. Returns how many they are.
 fn keep_all(
     alloc: Global,
     heap: &mut impl Counting,
@@ -228,7 +228,7 @@ fn keep_all(
     Ok(0)
 }
 
-/// While a heap gets full of what lives, it is collected a few times, and not for each of its last frames.
+/// While a heap fills with live objects, it is collected a few times, and not for each of its last frames.
 fn is_calm(rt: &impl Abort, alloc: Global, mut heap: impl Counting + Drop) -> Result<(), Fail> {
     let mut counters = Counters::new();
     let count = keep_all(alloc, &mut heap, &mut counters, 64)?;

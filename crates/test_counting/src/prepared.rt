@@ -34,13 +34,13 @@ impl Framed for ManagedHeap {
     }
 }
 
-/// What the parts of a collection did with frames.
+/// The effect of the parts of a collection on frames.
 #[derive(Clone, Copy, Debug, PartialEq, Eq)]
 struct Work {
-    /// Frames that were prepared, and the most by one part.
+    /// Frames that were prepared in all, and by one part at most.
     prepared: usize,
     most: usize,
-    /// Frames that were opened, and those of them whose memory was allocated then.
+    /// Frames that were opened, and how many of them had their memory allocated then.
     opened: usize,
     allocated: usize,
 }
@@ -52,12 +52,12 @@ const NOTHING: Work = Work {
     allocated: 0,
 };
 
-/// The frames that are used, and those whose memory is kept.
+/// Returns the frames that are used, and those whose memory is kept.
 fn frames_of(heap: &impl Framed) -> [usize; 2] {
     [heap.used_frames(), heap.kept_frames()]
 }
 
-/// The work after one more part, of which the frames before and after it are known.
+/// Returns the work after one more part, by the frames before and after it.
 fn more(work: Work, before: [usize; 2], after: [usize; 2]) -> Work {
     let opened = after[0].saturating_sub(before[0]);
     let found = before[1].saturating_sub(after[1]);
@@ -74,7 +74,7 @@ fn more(work: Work, before: [usize; 2], after: [usize; 2]) -> Work {
     }
 }
 
-/// The work of a collection in parts with this budget.
+/// Returns the work of a collection in parts with this budget.
 fn work_of(
     alloc: Global,
     heap: &mut impl Framed,
@@ -93,7 +93,7 @@ fn work_of(
     Ok(NOTHING)
 }
 
-/// Makes 200 objects, five on each of 40 pages, of which each second one is kept.
+/// Allocates 200 objects, five on each of 40 pages; every second one is kept.
 fn fill(alloc: Global, heap: &mut impl Framed) -> Result<(), Refusal> {
     for _ in 0..100 {
         heap.make(alloc, POLICY, ME, NEW, 0)?;
@@ -105,8 +105,8 @@ fn fill(alloc: Global, heap: &mut impl Framed) -> Result<(), Refusal> {
     heap.give_back(ME)
 }
 
-/// The 300 live words take 19 pages, and one more for what stays free at their ends. So 20 frames are prepared, at most
-/// `most` by one part. Of 40 pages all but two are emptied, into 19 frames, none of which is allocated then.
+/// The 300 live words take 19 pages, and one more for what stays free at their ends. So 20 frames are prepared, at
+/// most `most` by one part. Of 40 pages all but two are emptied, into 19 frames, none of which is allocated then.
 fn prepares(
     rt: &impl Abort,
     alloc: Global,

@@ -1,5 +1,5 @@
-//! Calls that are done at once if no trap is due: on a heap that isn't collected each of them is. Their contracts allow
-//! that nothing is done; the slow way then does it.
+//! Calls that are done at once if no trap is due: on a heap that isn't collected each of them is. Their contracts
+//! allow that nothing is done; then the slow way does it.
 
 use crate::same::same;
 use cycle::Mutating;
@@ -11,7 +11,7 @@ use test_support_samples::shared_by_two;
 
 /// A heap whose calls are done at once.
 trait AtOnce: Mutating {
-    /// Whether each call on the object in register 0 is done.
+    /// Returns whether each call on the object in register 0 is done.
     fn are_done(&mut self) -> [bool; 6];
 }
 
@@ -28,7 +28,7 @@ impl AtOnce for Heap {
     }
 }
 
-/// Makes an object in register 0, which global 0 names too.
+/// Allocates an object in register 0, to which global 0 refers too.
 fn make(heap: &mut impl Mutating) -> Result<(), Refusal> {
     heap.take(0, 16)?;
     heap.new_object(0, 0, 0)?;

@@ -44,7 +44,7 @@ fn has_pages(rt: &impl Abort, store: &Store) {
     }
 }
 
-/// No register names anything; the thread has no buffer and no barrier, and runs.
+/// All registers are null; the thread has no buffer and no barrier, and runs.
 fn is_new(rt: &impl Abort, thread: &Thread) {
     same(rt, thread.registers(), [Word::null(); 5].as_slice());
     assert!(rt; thread.buffer().is_none());
@@ -63,7 +63,7 @@ fn has_threads(rt: &impl Abort, threads: &[Thread]) {
     }
 }
 
-/// The loads of each thread have come to nothing yet, and there is no other thread.
+/// The barrier counters of each thread are 0, and there is no other thread.
 fn has_tallies(rt: &impl Abort, heap: &Heap) {
     for thread in 0..2 {
         same_at(rt, thread, heap.tally(thread), Some(Tally::blank()));
@@ -73,7 +73,7 @@ fn has_tallies(rt: &impl Abort, heap: &Heap) {
     }
 }
 
-/// No worker has an object.
+/// No worker is scanning an object.
 fn has_workers(rt: &impl Abort, heap: &Heap) {
     same(rt, heap.workers().len(), 4);
     for worker in heap.workers() {
@@ -94,14 +94,14 @@ fn has_collector(rt: &impl Abort, heap: &Heap) {
     same(rt, (heap.nmt(), heap.births()), (false, 0));
 }
 
-/// The configuration is the one that the heap was made of.
+/// The configuration is the one with which the heap was made.
 fn has_config(rt: &impl Abort, config: &Config) {
     same(rt, sizes(config), [32, 3, 8, 2, 4, 5, 7]);
     same(rt, (config.births, config.history), (100, 200));
     same(rt, config.layouts.len(), 2);
 }
 
-/// How many bits the rows of one record have, where there is such a record.
+/// Returns how many bits the bitmaps of one record have, if there is such a record.
 fn counts(heap: &Heap, record: usize) -> [Option<usize>; 4] {
     [
         heap.starts().get(record).map(Row::count),
@@ -111,7 +111,7 @@ fn counts(heap: &Heap, record: usize) -> [Option<usize>; 4] {
     ]
 }
 
-/// A row for each record of a page, and no bit is set.
+/// There is a bitmap for each record of a page, and no bit is set.
 fn has_clear_rows(rt: &impl Abort, heap: &Heap) {
     for record in 0..6 {
         same_at(rt, record, counts(heap, record), [Some(0); 4]);
@@ -120,13 +120,13 @@ fn has_clear_rows(rt: &impl Abort, heap: &Heap) {
     assert!(rt; heap.todo().is_empty());
 }
 
-/// Its pages, frames and rows of bits.
+/// Its pages, frames and bitmaps are those of a new heap.
 fn has_first_pages(rt: &impl Abort, heap: &Heap) {
     has_pages(rt, heap.memory());
     has_clear_rows(rt, heap);
 }
 
-/// Its configuration, threads, workers and globals.
+/// Its configuration, threads, workers and globals are those of a new heap.
 fn has_first_records(rt: &impl Abort, heap: &Heap) {
     has_config(rt, heap.config());
     has_threads(rt, heap.threads());
@@ -136,7 +136,7 @@ fn has_first_records(rt: &impl Abort, heap: &Heap) {
     has_collector(rt, heap);
 }
 
-/// All of a new heap.
+/// A new heap is in its first state.
 fn is_at_first(rt: &impl Abort, held: impl HeldHeap + Drop) {
     let heap = held.heap();
     has_first_pages(rt, heap);

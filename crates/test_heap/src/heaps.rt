@@ -8,7 +8,7 @@ use std::process::Abort;
 use std::test::Fail;
 use test_support_samples::small;
 
-/// All faults, in the order in which they are told.
+/// All faults, in the order in which they are tested.
 const FAULTS: [ConfigFault; 10] = [
     ConfigFault::Words,
     ConfigFault::Frames,
@@ -48,7 +48,7 @@ fn told(alloc: Global, config: Config) -> Option<ConfigFault> {
     }
 }
 
-/// The fault is told, and before one of the history.
+/// The fault is returned, before one of the history.
 fn is_told(rt: &impl Abort, alloc: Global, fault: ConfigFault) -> Result<(), AllocError> {
     let mut config = small(alloc)?;
     spoil(alloc, &mut config, fault)?;

@@ -1,4 +1,4 @@
-//! The tests of the heap: how it begins, and what its threads and workers ask of it.
+//! The tests of the heap: its first state, and the calls of its threads and workers.
 #![tactic(auto)]
 
 #[cfg(test)]

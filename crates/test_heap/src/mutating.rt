@@ -1,4 +1,4 @@
-//! Threads ask by calls that give plain values: a story in which each call is made.
+//! The calls of threads that return plain values: a sequence in which each call is made.
 
 use crate::same::same;
 use cycle::{Actor, Answer, Buffer, Mutating, PageList, Step, Stepping, Trap};
@@ -28,7 +28,7 @@ fn works(rt: &impl Abort, heap: &mut impl Stepping, step: Step) {
     assert!(rt; heap.step(WORKER, &step).is_ok());
 }
 
-/// Two objects are made in a page of their own, of which the first names the second.
+/// Two objects are allocated in a page of their own, the first of which refers to the second.
 fn make(rt: &impl Abort, heap: &mut impl Mutating) {
     same(rt, heap.give_back(FIRST), Err(Refusal::NoRoom));
     same(rt, heap.take(FIRST, 17), Err(Refusal::BadIndex));
@@ -109,7 +109,7 @@ fn scan(rt: &impl Abort, heap: &mut impl Stepping) {
     works(rt, heap, Step::EndMark);
 }
 
-/// The page is protected, and both threads cross; what a register of the first names is moved then.
+/// The page is protected, and both threads cross; then the object of a register of the first is moved.
 fn protect<H: Mutating + Stepping>(rt: &impl Abort, heap: &mut H, pages: PageList) {
     works(rt, heap, Step::Protect(pages));
     same(rt, heap.cross(FIRST), Ok(()));

@@ -1,5 +1,5 @@
-//! What a protection that lacks memory leaves, and what no script can ask for. What else is refused, and how
-//! objects move, is tested by scripts.
+//! The state after a protection that is out of memory, and requests that no script can make. Scripts test the other
+//! errors, and how objects move.
 
 use crate::same::same;
 use cycle::Stepping;
@@ -16,10 +16,10 @@ const SECOND: Actor = Actor::Thread(1);
 
 const WORKER: Actor = Actor::Worker(0);
 
-/// A heap that can be asked for all that it has. A test hands its heap on as one: to hold a `Heap`
-/// over calls is dear to prove.
+/// A heap whose state can be read. Tests pass theirs as one, since a proof with a `Heap` that lives over several
+/// calls takes long.
 pub trait HeldHeap: Stepping {
-    /// The heap.
+    /// Borrows the heap.
     fn heap(&self) -> &Heap;
 }
 
@@ -40,7 +40,7 @@ fn says(
     same(rt, heap.step(actor, &step), reply);
 }
 
-/// Page 1 is filled with one object, which the global names, and a mark closes it.
+/// Page 1 is filled with one object, to which the global refers, and a mark closes it.
 fn close(heap: &mut impl Stepping) -> Result<(), Refusal> {
     let (target, layout, global, source) = (0, 0, 0, 0);
     for (actor, step) in [
@@ -87,7 +87,7 @@ fn is_as_before(rt: &impl Abort, heap: &Heap) {
     same(rt, heap.sides().entry_on(1, 0), None);
 }
 
-/// A protection that lacks memory leaves the heap as it was, and is done when it is asked again.
+/// A protection that is out of memory leaves the heap as it was, and is done when it is repeated.
 fn protects(rt: &impl Abort, mut heap: impl HeldHeap + Drop, step: &Step) -> Result<(), Refusal> {
     close(&mut heap)?;
     let reply = heap.step(WORKER, step);
@@ -107,7 +107,7 @@ fn a_page_is_protected(rt: HostRuntime) -> Result<(), Fail> {
     Ok(())
 }
 
-/// A list of no pages is refused. A thread protects and releases nothing.
+/// A list of no pages is rejected. A thread protects and releases nothing.
 fn refuses(rt: &impl Abort, alloc: Global, mut heap: impl HeldHeap + Drop) -> Result<(), Fail> {
     close(&mut heap)?;
     let none = Step::Protect(PageList::new(Vec::new(alloc)));

@@ -1,4 +1,4 @@
--- What steps do to the registers that a seat knows.
+-- The effect of steps on the registers that a seat knows.
 use Rattle.std.proofs.Common.{◌≡◌, ◌∙◌, ◌<◌, ℕ, Bool, true, List, [], ◌∷◌, length, refl, sym, ap, subst, arith}
 use Rattle.std.proofs.Common.{Option, Some, None}
 use Rattle.std.specs.Prelude.{IfSome, Ok, slice_get, slice_set}
@@ -49,7 +49,7 @@ copies h g t target source u before after k was is stands =
     ∙ changed_in r.now.threads t target (name_of r.now t source) (slice_get r.now.threads t) refl
     ∙ (λ z. slice_set (old z) target (named r.now t source before old z))
 
--- whether two registers name one object
+-- whether two registers refer to one object
 pub compares : (h g : HeapState) (t left right : ℕ) (b : Bool) (births : List (Option ℕ)) → Promises h
     → HasRegisters h t births → ThreadStands answers.Truth h t (steps.Same left right) (Ok b) g
     → b ≡ same_name (birth_at births left) (birth_at births right)
@@ -68,7 +68,7 @@ same_self : (b : Option ℕ) → same_name b b ≡ true
 same_self None = refl
 same_self (Some n) = eq-eqb n n refl
 
--- after a copy both registers name one object
+-- after a copy both registers refer to one object
 pub copied_same : (births : List (Option ℕ)) → 1 < length births
     → same_name (birth_at (slice_set births 1 (birth_at births 0)) 0)
     (birth_at (slice_set births 1 (birth_at births 0)) 1) ≡ true

@@ -1,4 +1,4 @@
-//! What a thread writes into a register in one portion, it reads in its next.
+//! A thread reads in its next portion what it wrote to a register in one before.
 
 ghost use Rattle.std.specs.Prelude.{◌≡◌, ◌<◌, true, length, IfSome, Ok};
 ghost use Rattle.model.specs.Saying.{done};
@@ -20,7 +20,7 @@ fn copy(mutator: &mut Mutator) -> Result<(), Refusal>
     mutator.copy_register(1, 0)
 }
 
-/// Whether registers 0 and 1 name one object.
+/// Returns whether registers 0 and 1 refer to one object.
 fn compare(mutator: &mut Mutator) -> Result<bool, Refusal>
     ensures stands { ThreadStands answers.Truth mutator.old.heap mutator.old.thread (steps.Same 0 1) result
         mutator.new.heap }
@@ -29,7 +29,7 @@ fn compare(mutator: &mut Mutator) -> Result<bool, Refusal>
     mutator.same(0, 1)
 }
 
-/// Whether the registers name one object, if the copy was made.
+/// Returns whether the registers refer to one object, if the copy was made.
 fn found(copied: Result<(), Refusal>, same: Result<bool, Refusal>) -> Option<bool>
     ensures { IfSome result (λ is. (copied ≡ Ok tt) × (same ≡ Ok is)) }
 {
@@ -40,7 +40,7 @@ fn found(copied: Result<(), Refusal>, same: Result<bool, Refusal>) -> Option<boo
 }
 
 /// Copies register 0 to register 1 in a portion, and compares them in the next one. Whatever other threads and the
-/// collector do in between, both name one object then, if the thread has two registers.
+/// collector do in between, both then refer to one object, if the thread has two registers.
 pub(crate) fn copied<N: CellName, R: Wait>(
     rt: &R,
     shared: &KnownHeap<N>,

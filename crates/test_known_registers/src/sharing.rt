@@ -1,4 +1,4 @@
-//! Two threads of the system share a heap by seats that know their registers.
+//! Two system threads share a heap by seats that know their registers.
 
 ghost use Rattle.std.specs.Prelude.{◌≡◌};
 
@@ -21,8 +21,8 @@ const POLICY: Policy = Policy {
     percent: 75,
 };
 
-/// A thread makes an object in a portion, and copies and compares the register in two more. Returns 1 if the registers
-/// name one object.
+/// A thread allocates an object in a portion, and copies and compares the register in two more. Returns 1 if the
+/// registers refer to one object.
 fn work<N: CellName, R: Wait>(
     rt: &R,
     alloc: Global,
@@ -35,8 +35,8 @@ fn work<N: CellName, R: Wait>(
     (seat, count)
 }
 
-/// Two threads work, parts of a collection are done, and one of them works again. Returns how often registers named
-/// one object.
+/// Two threads work, parts of a collection are done, and one of them works again. Returns how often registers
+/// referred to one object.
 fn rounds<N: CellName + Send + Sync, R: Threads + Wait + Sync>(
     rt: &R,
     alloc: Global,
@@ -58,7 +58,7 @@ fn rounds<N: CellName + Send + Sync, R: Threads + Wait + Sync>(
     if part.is_ok() && numbers { counted } else { 0 }
 }
 
-/// A heap is shared by two threads. Returns how often registers named one object.
+/// Two threads share a heap. Returns how often registers referred to one object.
 fn both<N: CellName + Send + Sync, R: Threads + Wait + Sync>(
     rt: &R,
     alloc: Global,
@@ -83,7 +83,7 @@ fn both<N: CellName + Send + Sync, R: Threads + Wait + Sync>(
     Ok(counted)
 }
 
-/// The same, of a cell that is made for it.
+/// The same, with a cell that is made for it.
 pub(crate) fn shares<R: Threads + Wait + Sync>(
     rt: &R,
     alloc: Global,

@@ -7,7 +7,7 @@ use managed::Config;
 use std::alloc::Global;
 use std::test::*;
 
-/// A heap of two threads, in pages of 64 words.
+/// Returns a heap of two threads, in pages of 64 words.
 fn heap_of(alloc: Global) -> Result<ManagedHeap, Fail> {
     let layouts = Layouts::new(vec![in alloc; Layout { refs: 1, nums: 1 }]?);
     let mut config = Config::new(64, 32, layouts);

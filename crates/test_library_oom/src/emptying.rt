@@ -1,4 +1,4 @@
-//! Pages of a managed heap are emptied by one call.
+//! Emptying pages of a managed heap by one call.
 
 use crate::heaps::{Moving, fill_and_close, new_managed};
 use crate::same::same;
@@ -10,9 +10,9 @@ use std::process::Abort;
 use std::test::Fail;
 use verify::Verdict;
 
-/// A heap of which pages are emptied.
+/// A heap whose pages are emptied.
 trait Emptying: Moving {
-    /// The pages of eight objects are emptied.
+    /// Empties the pages of eight objects.
     fn empty(&mut self, alloc: Global) -> Result<Result<(), Refusal>, AllocError>;
 }
 
@@ -23,8 +23,8 @@ impl Emptying for ManagedHeap {
     }
 }
 
-/// All is emptied. Where the call lacks memory, the heap is as it was, and all is done when it is made
-/// again; the test then tells the want of memory.
+/// All is emptied. If the call is out of memory, the heap is as it was, and all is done when it is repeated; the test
+/// then fails as out of memory.
 fn empties(rt: &impl Abort, alloc: Global, mut heap: impl Emptying + Drop) -> Result<(), Fail> {
     fill_and_close(&mut heap)??;
     let before = heap.text(alloc)?;
@@ -46,7 +46,7 @@ fn pages_are_emptied(rt: HostRuntime) -> Result<(), Fail> {
     empties(&rt, rt.alloc(), new_managed(rt.alloc())?)
 }
 
-/// A heap is made, and made again where that lacked memory. The second value tells that.
+/// Makes a heap, and again if that was out of memory, which the second value tells.
 fn made(alloc: Global) -> Result<(ManagedHeap, bool), Fail> {
     if let Ok(heap) = new_managed(alloc) {
         return Ok((heap, false));
@@ -72,7 +72,7 @@ fn a_heap_is_made(rt: HostRuntime) -> Result<(), Fail> {
     }
 }
 
-/// A heap is verified, and again where that lacked memory.
+/// Verifies a heap, and again if that was out of memory.
 fn looks(rt: &impl Abort, alloc: Global, mut heap: impl Moving + Drop) -> Result<(), Fail> {
     fill_and_close(&mut heap)??;
     let first = heap.verdict(alloc);

@@ -14,34 +14,34 @@ const THREAD: Actor = Actor::Thread(0);
 
 const WORKER: Actor = Actor::Worker(0);
 
-/// What a test asks of a heap with one thread and one worker. It promises nothing, so that the proofs
-/// of tests are short.
+/// The calls of a test on a heap with one thread and one worker. They have no contracts, so that the proofs of tests
+/// are short.
 pub trait Moving {
-    /// A step of the thread.
+    /// Does a step of the thread.
     fn act(&mut self, step: &Step) -> Reply;
 
-    /// A step of the worker.
+    /// Does a step of the worker.
     fn work(&mut self, step: &Step) -> Reply;
 
-    /// The next step of a mark's scan, if one is left; whether it was.
+    /// Does the next step of a mark's scan, if one is left. Returns whether it was.
     fn scan(&mut self) -> Result<bool, Refusal>;
 
-    /// Its phase, whether its thread has crossed, and how many objects have still to be copied.
+    /// Returns its phase, whether its thread has crossed, and how many objects are uncopied.
     fn progress(&self) -> (Phase, bool, u64);
 
-    /// The text of its image.
+    /// Returns the text of its image.
     fn text(&self, alloc: Global) -> Result<String, AllocError>;
 
-    /// What the verifier says of it.
+    /// Returns the verifier's verdict.
     fn verdict(&self, alloc: Global) -> Result<Verdict, AllocError>;
 }
 
-/// Whether all threads have crossed.
+/// Returns whether all threads have crossed.
 fn has_crossed(heap: &Heap) -> bool {
     heap.threads().iter().all(|thread| thread.has_crossed())
 }
 
-/// The text of an image.
+/// Returns the text of an image.
 fn text_of(alloc: Global, image: &Image) -> Result<String, AllocError> {
     let mut text = String::new(alloc);
     write!(text, "{image}")?;
@@ -119,12 +119,12 @@ fn config(alloc: Global) -> Result<Config, AllocError> {
     Ok(config)
 }
 
-/// Such a heap.
+/// Returns a heap of that configuration.
 pub fn new_heap(alloc: Global) -> Result<Heap, NewFault> {
     Heap::new(alloc, config(alloc)?)
 }
 
-/// The same heap, as a program holds it.
+/// Returns the same as a managed heap.
 pub fn new_managed(alloc: Global) -> Result<ManagedHeap, NewFault> {
     ManagedHeap::new(alloc, config(alloc)?)
 }
@@ -157,7 +157,7 @@ fn fill(heap: &mut impl Moving) -> Result<(), Refusal> {
     Ok(())
 }
 
-/// All of a mark's scan, in at most so many steps.
+/// Does all of a mark's scan, in at most `most` steps.
 fn drain(heap: &mut impl Moving, most: u32) -> Result<(), Refusal> {
     for _ in 0..most {
         if !heap.scan()? {

@@ -8,7 +8,7 @@ use std::alloc::{AllocError, Global};
 use std::process::Abort;
 use std::test::Fail;
 
-/// Does all parts of a collection, and a part that is out of memory once more. Returns whether one was, and the most
+/// Does all parts of a collection, and repeats a part that is out of memory. Returns whether one was, and the most
 /// frames whose memory was kept.
 fn collect(
     rt: &impl Abort,
@@ -34,8 +34,8 @@ fn collect(
     Ok((lacked, 0))
 }
 
-/// The four pages of eight objects are emptied into two frames. If a part is out of memory, the heap is as it was, and
-/// the next parts end the collection; the test then returns that.
+/// The four pages of eight objects are emptied into two frames. If a part is out of memory, the heap is as it was,
+/// and the next parts end the collection; the test then fails as out of memory.
 fn ends(
     rt: &impl Abort,
     alloc: Global,

@@ -7,7 +7,7 @@ use std::alloc::{AllocError, Global};
 use std::process::Abort;
 use std::test::Fail;
 
-/// The pages, in the order in which they are named.
+/// The pages, in the order of the step.
 const PAGES: [u32; 4] = [3, 1, 4, 2];
 
 /// A mark has found eight objects.
@@ -22,12 +22,12 @@ const ALL: Reply = Ok(Answer::Protected {
     targets: 2,
 });
 
-/// That the pages be protected.
+/// Returns the step that protects the pages.
 fn protection(alloc: Global) -> Result<Step, AllocError> {
     Ok(Step::Protect(PageList::new(Vec::from_slice(alloc, &PAGES)?)))
 }
 
-/// Each page is copied, and gives its frame up: none is free before.
+/// Each page is copied, and its frame released: none is free before.
 fn empty(rt: &impl Abort, heap: &mut impl Moving) {
     assert_eq!(rt; heap.act(&Step::Cross), Ok(Answer::Done));
     let mut free = 0u64;
@@ -41,15 +41,15 @@ fn empty(rt: &impl Abort, heap: &mut impl Moving) {
     assert_eq!(rt; heap.progress(), (Phase::Relocating, true, 0));
 }
 
-/// Nothing was done, and the same step is done when it is asked again.
+/// Nothing was done, and the same step is done when it is repeated.
 fn protects_again(rt: &impl Abort, heap: &mut impl Moving, step: &Step, before: &str, after: &str) {
     assert_eq!(rt; after, before);
     assert_eq!(rt; heap.progress(), (Phase::Idle, true, 0));
     assert_eq!(rt; heap.work(step), ALL);
 }
 
-/// The pages are protected and emptied. Where the step lacks memory, the heap is as it was, and all is
-/// done when the step is asked again; the test then tells the want of memory.
+/// The pages are protected and emptied. If the step is out of memory, the heap is as it was, and all is done when the
+/// step is repeated; the test then fails as out of memory.
 fn protect(rt: &impl Abort, alloc: Global, mut heap: impl Moving + Drop) -> Result<(), Fail> {
     assert_eq!(rt; fill_and_close(&mut heap)?, EIGHT);
     let step = protection(alloc)?;

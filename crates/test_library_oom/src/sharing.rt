@@ -18,10 +18,10 @@ const POLICY: Policy = Policy {
     percent: 75,
 };
 
-/// More parts than a collection of this heap takes.
+/// More parts than a collection of this heap has.
 const PARTS: u32 = 50;
 
-/// Makes objects until the heap was collected, of which the last is kept.
+/// Allocates objects until the heap was collected, and keeps the last one.
 fn fill(alloc: Global, mutator: &mut impl MutatorCalls) -> Result<(), Refusal> {
     for value in 0..200u64 {
         mutator.make(alloc, POLICY, 0, 0)?;
@@ -45,7 +45,7 @@ fn work<R: Wait>(
     portion.datum(0, 0)
 }
 
-/// A whole collection between portions; a part that lacks memory is done again.
+/// Does a complete collection between portions; a part that is out of memory is repeated.
 fn collect<R: Wait>(
     rt: &R,
     alloc: Global,
@@ -60,13 +60,14 @@ fn collect<R: Wait>(
     Err(Refusal::Phase)
 }
 
-/// The heap that is shared.
+/// Returns the heap that is shared.
 fn new_heap(alloc: Global) -> Result<ManagedHeap, Fail> {
     let layouts = Layouts::new(vec![in alloc; Layout { refs: 0, nums: 1 }]?);
     Ok(ManagedHeap::new(alloc, Config::new(64, 4, layouts))?)
 }
 
-/// It works, and is collected. Where a call lacks memory, it is done when it is made again; the test tells that then.
+/// It works, and is collected. A call that is out of memory is done when it is repeated; the test then fails as out
+/// of memory.
 fn works(
     rt: &(impl Wait + Abort),
     alloc: Global,

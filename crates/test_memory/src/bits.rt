@@ -1,4 +1,4 @@
-//! Rows of bits beside plain flags, one `bool` a place.
+//! Bitmaps compared with plain flags, one `bool` a bit.
 
 use crate::rows::clear_rows;
 use crate::same::{same, same_at};
@@ -12,12 +12,12 @@ pub const PAGE_SIZES: [u32; 12] = [
     16, 32, 64, 128, 256, 512, 1_024, 2_048, 4_096, 8_192, 16_384, 32_768,
 ];
 
-/// How many flags are set below a place, one by one.
+/// Counts the set flags below a place, one by one.
 fn flags_below(flags: &[bool], place: usize) -> usize {
     flags.iter().take(place).filter(|flag| **flag).count()
 }
 
-/// The first set flag from a place on, one by one.
+/// Finds the first set flag from a place on, one by one.
 fn next_flag(flags: &[bool], place: usize) -> Option<u32> {
     for (index, flag) in flags.iter().enumerate() {
         if *flag && index >= place {
@@ -27,7 +27,7 @@ fn next_flag(flags: &[bool], place: usize) -> Option<u32> {
     None
 }
 
-/// What a row says of a place is what the flags say.
+/// A bitmap and the flags agree at a place.
 fn says_the_same(rt: &impl Abort, row: &Row, flags: &[bool], place: usize) {
     let bit = place < flags.len() && flags[place];
     same_at(rt, place, row.test(place), bit);
@@ -35,7 +35,7 @@ fn says_the_same(rt: &impl Abort, row: &Row, flags: &[bool], place: usize) {
     same_at(rt, place, row.next_from(place), next_flag(flags, place));
 }
 
-/// Bits are set and cleared in a row, and in the flags, at scattered places: some behind its end.
+/// Bits are set and cleared in a bitmap, and in the flags, at scattered places: some past its end.
 fn go_along(rt: &impl Abort, row: &mut Row, flags: &mut [bool]) {
     let range = flags.len() + 8;
     let mut number = flags.len() as u64;
@@ -52,7 +52,7 @@ fn go_along(rt: &impl Abort, row: &mut Row, flags: &mut [bool]) {
     same(rt, row.count(), flags_below(flags, flags.len()));
 }
 
-/// A row and flags of a page of so many words.
+/// A bitmap and flags of a page of `size` words.
 fn goes_along(rt: &impl Abort, alloc: Global, size: u32) -> Result<(), AllocError> {
     let mut row = Row::new(alloc, size)?;
     let mut flags = vec![in alloc; false; size as usize]?;
@@ -97,12 +97,12 @@ fn each_third_place(rt: HostRuntime) -> Result<(), AllocError> {
     Ok(())
 }
 
-/// The first places that are set in rows 0 to 2.
+/// The first places that are set in bitmaps 0 to 2.
 fn firsts(rows: &Rows) -> [Option<u32>; 3] {
     [0, 1, 2].map(|index| rows.get(index)?.next_from(0))
 }
 
-/// Tables change their rows and swap them, and all rows of one are cleared.
+/// Tables change their bitmaps and swap them, and all bitmaps of one are cleared.
 fn change_tables(rt: &impl Abort, rows: &mut Rows, other: &mut Rows) {
     for (index, place) in [(2, 99), (1, 5), (1, 60), (3, 5), (0, 100)] {
         rows.put(index, place, true);

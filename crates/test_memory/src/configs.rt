@@ -28,7 +28,7 @@ fn has_fault(rt: &impl Abort, config: &Config, fault: Option<ConfigFault>) {
     same(rt, config.fault(), fault);
 }
 
-/// Spoils one number after another, each of which is looked at before those behind it.
+/// Spoils one number after another, each of which is tested before those spoiled so far.
 fn spoil(rt: &impl Abort, config: &mut Config, layouts: Layouts) {
     has_fault(rt, config, None);
     config.history = 1_000_001;
@@ -49,7 +49,7 @@ fn the_first_fault_is_told(rt: HostRuntime) -> Result<(), Fail> {
     Ok(())
 }
 
-/// The greatest numbers that a heap may be made with, but for the layouts and the history.
+/// The greatest configuration that a heap can be made with, except for the layouts and the history.
 fn greatest(layouts: Layouts) -> Config {
     Config {
         words: 32_768,
@@ -65,7 +65,7 @@ fn greatest(layouts: Layouts) -> Config {
     }
 }
 
-/// One more of each than there may be, from the last to the first of these fields.
+/// Increments each of these fields past its limit, from the last to the first.
 fn exceed(rt: &impl Abort, config: &mut Config) {
     config.births = (1 << 56) + 1;
     has_fault(rt, config, Some(ConfigFault::Births));
@@ -100,7 +100,7 @@ fn the_text_of_a_fault(rt: HostRuntime) -> Result<(), Fail> {
     Ok(())
 }
 
-/// The limits of births and entries are the highest.
+/// The limits of births and entries are the greatest.
 fn has_highest_limits(rt: &impl Abort, config: &Config) {
     same(rt, (config.births, config.history), (1 << 56, 1_000_000));
 }

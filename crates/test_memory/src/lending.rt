@@ -1,4 +1,4 @@
-//! Writes through borrowed words: a whole page, one page beside another that is read, and pieces of a slice.
+//! Writes through borrowed words: a complete page, one page while another is read, and pieces of a slice.
 
 use crate::pages::{HeldStore, takes};
 use crate::same::{same, same_at};

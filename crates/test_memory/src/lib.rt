@@ -1,5 +1,4 @@
-//! The tests of what lies below the heap: words, rows, side arrays, pages, objects and
-//! configurations.
+//! The tests of the parts of a heap: references, bitmaps, forwarding tables, pages, objects and configurations.
 #![tactic(auto)]
 
 #[cfg(test)]

@@ -1,4 +1,4 @@
-//! Side arrays beside plain lists of their entries, in which offsets are sought by halving.
+//! Forwarding tables compared with plain lists of their entries, which are searched by halving.
 
 use crate::bits::PAGE_SIZES;
 use crate::same::{same, same_at};
@@ -12,7 +12,7 @@ use std::process::Abort;
 use std::test::Fail;
 use test_support_samples::scatter;
 
-/// The number of the entry of an offset in a list whose offsets rise: 20 halvings are enough for any page.
+/// Returns the number of the entry of an offset in a list whose offsets rise: 20 halvings are enough for any page.
 fn number_of(entries: &[Forwarding], offset: u32) -> Option<usize> {
     let mut low = 0usize;
     let mut high = entries.len();
@@ -31,7 +31,7 @@ fn number_of(entries: &[Forwarding], offset: u32) -> Option<usize> {
     }
 }
 
-/// The offset of an entry; greater than any where there is no such entry.
+/// Returns the offset of an entry; a greater one than any if there is no such entry.
 fn offset_at(entries: &[Forwarding], index: usize) -> u64 {
     match entries.get(index) {
         None => u64::MAX,
@@ -39,17 +39,17 @@ fn offset_at(entries: &[Forwarding], index: usize) -> u64 {
     }
 }
 
-/// The entry of an offset.
+/// Returns the entry of an offset.
 fn found(entries: &[Forwarding], offset: u32) -> Option<Forwarding> {
     entries.get(number_of(entries, offset)?).copied()
 }
 
-/// How many entries aren't copied.
+/// Returns how many entries aren't copied.
 fn uncopied(entries: &[Forwarding]) -> usize {
     entries.iter().filter(|entry| !entry.copied).count()
 }
 
-/// What a side array says of an offset, and of a number, is what the list says.
+/// A forwarding table and the list agree at an offset, and at a number.
 fn says_the_same(rt: &impl Abort, side: &Side, entries: &[Forwarding], offset: u32) {
     let number = number_of(entries, offset).map(|number| number as u64);
     same_at(rt, offset, side.find(offset), found(entries, offset));
@@ -83,7 +83,7 @@ fn go_along(rt: &impl Abort, side: &mut Side, entries: &mut [Forwarding], range:
     same(rt, side.is_copied(), uncopied(entries) == 0);
 }
 
-/// Each entry is found by its number, wherever it is sought first.
+/// Each entry is found by its number, with any first guess.
 fn finds_each(rt: &impl Abort, side: &Side, entries: &[Forwarding]) {
     let mut near = 0;
     for (index, entry) in entries.iter().enumerate() {
@@ -97,8 +97,8 @@ fn finds_each(rt: &impl Abort, side: &Side, entries: &[Forwarding]) {
     same(rt, side.len(), entries.len());
 }
 
-/// Entries at some offsets of a page, each of which goes anywhere: at all, or where a number without order
-/// has these bits clear.
+/// Returns entries at some offsets of a page, each of which goes anywhere: at those for which a pseudorandom number
+/// has the bits of `mask` clear.
 fn listed(alloc: Global, words: u32, mask: u64) -> Result<Vec<Forwarding>, Fail> {
     let mut entries = Vec::new(alloc);
     let mut number = u64::from(words);
@@ -116,7 +116,7 @@ fn listed(alloc: Global, words: u32, mask: u64) -> Result<Vec<Forwarding>, Fail>
     Ok(entries)
 }
 
-/// Where the entries go.
+/// Returns where the entries go.
 fn places(alloc: Global, entries: &[Forwarding]) -> Result<Vec<Addr>, AllocError> {
     let mut places = Vec::with_capacity(alloc, entries.len())?;
     for entry in entries {
@@ -125,7 +125,7 @@ fn places(alloc: Global, entries: &[Forwarding]) -> Result<Vec<Addr>, AllocError
     Ok(places)
 }
 
-/// The offsets of the entries in a page of so many words.
+/// Returns the offsets of the entries in a page of `words` words.
 fn offsets(alloc: Global, words: u32, entries: &[Forwarding]) -> Result<Row, AllocError> {
     let mut live = Row::new(alloc, words)?;
     for entry in entries {
@@ -134,7 +134,7 @@ fn offsets(alloc: Global, words: u32, entries: &[Forwarding]) -> Result<Row, All
     Ok(live)
 }
 
-/// The list and the side array of a page of so many words have the same entries, also when some of them are
+/// The list and the forwarding table of a page of `words` words have the same entries, also when some of them are
 /// copied.
 fn agree(rt: &impl Abort, words: u32, side: &mut Side, entries: &mut [Forwarding]) {
     finds_each(rt, side, entries);
@@ -142,7 +142,7 @@ fn agree(rt: &impl Abort, words: u32, side: &mut Side, entries: &mut [Forwarding
     finds_each(rt, side, entries);
 }
 
-/// A page of so many words, of which some have entries.
+/// Compares for a page of `words` words, some of which have entries.
 fn compares(rt: &impl Abort, alloc: Global, words: u32, mask: u64) -> Result<(), Fail> {
     let mut entries = listed(alloc, words, mask)?;
     let live = offsets(alloc, words, &entries)?;

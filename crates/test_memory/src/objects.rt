@@ -45,7 +45,7 @@ fn a_table_of_two(rt: HostRuntime) -> Result<(), Fail> {
     Ok(())
 }
 
-/// Fills the parts of an object. Gives how many references it has.
+/// Fills the parts of an object. Returns how many references it has.
 fn fill_parts(words: &mut [u64], layout: &Layout) -> Option<usize> {
     let parts = split(words, layout)?;
     *parts.header = Header {

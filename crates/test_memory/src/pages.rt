@@ -1,4 +1,4 @@
-//! A store of pages, and where its buffers are.
+//! A store of pages, and the places of its buffers.
 
 use crate::same::{same, same_at};
 use crate::sides::{live, side_of};
@@ -11,10 +11,10 @@ use std::alloc::{AllocError, Global};
 use std::process::Abort;
 use std::test::Fail;
 
-/// A store that can be lent. A test hands its store on as one: to hold a `Store` over calls is dear to
-/// prove.
+/// A store that can be borrowed. Tests pass theirs as one, since a proof with a `Store` that lives over several calls
+/// takes long.
 pub trait HeldStore {
-    /// The store.
+    /// Borrows the store.
     fn store(&mut self) -> &mut Store;
 }
 
@@ -24,9 +24,9 @@ impl HeldStore for Store {
     }
 }
 
-/// A side array that is held in the same way.
+/// A forwarding table that can be borrowed, for the same reason.
 trait HeldSide {
-    /// The side array.
+    /// Borrows the forwarding table.
     fn side(&self) -> &Side;
 }
 
@@ -58,7 +58,7 @@ fn place_of(taken: Result<Buffer, Room>) -> Result<(u32, u32), Room> {
     Ok((buffer.page, buffer.next))
 }
 
-/// Takes buffers of the sizes that the rows begin with, and compares page and offset.
+/// Takes buffers of the first number of each row, and compares page and offset with the others.
 pub fn takes(rt: &impl Abort, store: &mut Store, rows: &[(u32, u32, u32)]) {
     for (n, page, next) in rows {
         same_at(rt, n, place_of(take(rt, store, *n)), Ok((*page, *next)));
@@ -92,8 +92,7 @@ fn has_two_open(rt: &impl Abort, store: &Store) {
     }
 }
 
-/// Takes buffers as `takes` does. Where memory for a page is refused, the same buffer is taken when it is asked for
-/// again; the want of memory is told then.
+/// Takes buffers as `takes` does. If out of memory for a page, takes the same buffer once more, and fails at the end.
 fn takes_or_lacks(
     rt: &impl Abort,
     store: &mut Store,
@@ -111,7 +110,7 @@ fn takes_or_lacks(
     if lacked { Err(AllocError) } else { Ok(()) }
 }
 
-/// Buffers go into the lowest page that has room, until no frame is free.
+/// Buffers go into the lowest page that has space, until no frame is free.
 fn takes_lowest(rt: &impl Abort, mut held: impl HeldStore + Drop) -> Result<(), AllocError> {
     let store = held.store();
     let rows = [(10, 1, 0), (7, 2, 0), (6, 1, 10), (9, 2, 7)];
@@ -128,7 +127,7 @@ fn takes_in_the_lowest_page(rt: HostRuntime) -> Result<(), Fail> {
     Ok(())
 }
 
-/// A buffer is given back, and of its page what is behind it can be taken.
+/// A buffer is given back, and the words of its page after it can be taken.
 fn gives_back(rt: &impl Abort, mut held: impl HeldStore + Drop) {
     let store = held.store();
     if let Ok(buffer) = take(rt, store, 9) {
@@ -165,15 +164,15 @@ fn refuses_for_want_of_pages(rt: HostRuntime) -> Result<(), AllocError> {
     fills(&rt, made, &[(16, 1, 0)], Room::NoPages, 1)
 }
 
-/// Takes a buffer of so many words in each of the pages 1 to 300.
+/// Takes a buffer of `n` words in each of the pages 1 to 300.
 fn takes_in_each(rt: &impl Abort, store: &mut Store, n: u32, next: u32) {
     for page in 1..301 {
         takes(rt, store, &[(n, page, next)]);
     }
 }
 
-/// Each first buffer leaves one word, so that the next needs a page of its own; then the words
-/// that were left are given out from the lowest page on.
+/// Each first buffer leaves one word, so that the next needs a page of its own; then the words that were left are
+/// taken from the lowest page on.
 fn fills_pages(rt: &impl Abort, mut held: impl HeldStore + Drop) {
     let store = held.store();
     takes_in_each(rt, store, 15, 0);
@@ -205,7 +204,7 @@ fn takes_in_a_lower_page_that_has_room(rt: HostRuntime) -> Result<(), AllocError
     fills(&rt, made, &rows, Room::NoFrames, 0)
 }
 
-/// Writes behind the ends of two buffers of page 1 too.
+/// Also writes past the ends of two buffers of page 1.
 fn writes(rt: &impl Abort, store: &mut Store) -> Result<(), Room> {
     let first = take(rt, store, 3)?;
     let second = take(rt, store, 2)?;
@@ -242,7 +241,7 @@ fn writes_where_a_buffer_is(rt: HostRuntime) -> Result<(), AllocError> {
     Ok(())
 }
 
-/// Pages 1 and 2 are taken whole, and the words 1 to 16 are written to page 1.
+/// Pages 1 and 2 are taken completely, and the words 1 to 16 are written to page 1.
 fn counts(rt: &impl Abort, store: &mut Store) {
     takes(rt, store, &[(16, 1, 0), (16, 2, 0)]);
     for offset in 0..16 {
@@ -250,7 +249,7 @@ fn counts(rt: &impl Abort, store: &mut Store) {
     }
 }
 
-/// Places on page 2: past the end of it, inside, and further inside.
+/// Places on page 2: past its end, inside, and further inside.
 fn places(alloc: Global) -> Result<Vec<Addr>, AllocError> {
     let mut places = Vec::with_capacity(alloc, 3)?;
     for offset in [14, 1, 8] {
@@ -261,13 +260,13 @@ fn places(alloc: Global) -> Result<Vec<Addr>, AllocError> {
     Ok(places)
 }
 
-/// Objects that go to page 2: the first past the end of it, the last from past the end of its own.
+/// Objects that go to page 2: the first past its end, the last from past the end of its own.
 fn three(alloc: Global) -> Result<Side, Fail> {
     let places = places(alloc)?;
     side_of(alloc, live(alloc, &[0, 2, 14])?, places)
 }
 
-/// Objects of three words are copied between pages, as far as both go, and nowhere else.
+/// Objects of three words are copied between pages, if both places exist, and nowhere else.
 fn copies(rt: &impl Abort, store: &mut Store, side: &Side, layouts: &Layouts) {
     assert!(rt; side.len() == 3);
     store.copy_entries(1, 2, side, layouts, 0, 3);

@@ -1,4 +1,4 @@
-//! Rows of bits, and lists of copies, made where there is memory.
+//! Bitmaps, and lists of copies, made if there is memory.
 
 use crate::same::{same, same_at};
 use markbits::{IndexedRow, IndexedRows, Row, Rows};
@@ -18,7 +18,7 @@ fn a_row_of_clear_bits(rt: HostRuntime) -> Result<(), Fail> {
     Ok(())
 }
 
-/// How many bits are set in the first rows, and that there are no more.
+/// The first bitmaps have these numbers of set bits, and there are no more bitmaps.
 fn has_counts(rt: &impl Abort, rows: &Rows, counts: &[usize]) {
     for (index, count) in counts.iter().enumerate() {
         same_at(rt, index, rows.get(index).map(Row::count), Some(*count));
@@ -26,7 +26,7 @@ fn has_counts(rt: &impl Abort, rows: &Rows, counts: &[usize]) {
     assert!(rt; rows.get(counts.len()).is_none());
 }
 
-/// So many rows of so many bits, all clear.
+/// Returns `count` bitmaps of `words` bits, all clear.
 pub(crate) fn clear_rows(alloc: Global, count: u32, words: u32) -> Result<Rows, AllocError> {
     let mut rows = Rows::new(alloc, count)?;
     for index in 0..count {
@@ -35,7 +35,7 @@ pub(crate) fn clear_rows(alloc: Global, count: u32, words: u32) -> Result<Rows, 
     Ok(rows)
 }
 
-/// The same with an index.
+/// Returns the same with an index.
 fn clear_indexed_rows(alloc: Global, count: u32, words: u32) -> Result<IndexedRows, AllocError> {
     let mut rows = IndexedRows::new(alloc, count)?;
     for index in 0..count {
@@ -73,7 +73,7 @@ fn rows_of_clear_bits(rt: HostRuntime) -> Result<(), Fail> {
     Ok(())
 }
 
-/// How many bits are set in the first rows of a table with an index, and that there are no more.
+/// The first bitmaps of a table with an index have these numbers of set bits, and there are no more bitmaps.
 fn has_indexed_counts(rt: &impl Abort, rows: &IndexedRows, counts: &[usize]) {
     for (index, count) in counts.iter().enumerate() {
         same_at(rt, index, rows.get(index).map(Row::count), Some(*count));
@@ -81,14 +81,14 @@ fn has_indexed_counts(rt: &impl Abort, rows: &IndexedRows, counts: &[usize]) {
     assert!(rt; rows.get(counts.len()).is_none());
 }
 
-/// The rows that have a bit are found, up to the last and behind it.
+/// The bitmaps that have a bit are found, up to the last and after it.
 fn finds_busy_rows(rt: &impl Abort, rows: &IndexedRows, found: &[Option<u32>]) {
     for (index, busy) in found.iter().enumerate() {
         same_at(rt, index, rows.next_busy(index), *busy);
     }
 }
 
-/// Bits of three rows, inside and behind their ends, are set and cleared.
+/// Bits of three bitmaps, inside and past their ends, are set and cleared.
 fn changes_rows(rt: &impl Abort, rows: &mut IndexedRows) {
     has_indexed_counts(rt, rows, &[0, 0, 0]);
     finds_busy_rows(rt, rows, &[None; 4]);
@@ -103,7 +103,7 @@ fn changes_rows(rt: &impl Abort, rows: &mut IndexedRows) {
     assert!(rt; rows.is_empty());
 }
 
-/// Bits at both ends of the words of a long row, of its index, and of the index of that.
+/// Bits at both ends of the words of a long bitmap, of its index, and of the index of that.
 const FAR: [u32; 9] = [0, 63, 64, 4095, 4096, 262_143, 262_144, 524_288, 1_048_574];
 
 /// The bits are found one after another.
@@ -138,7 +138,7 @@ fn rows_with_an_index(rt: HostRuntime) -> Result<(), Fail> {
     Ok(())
 }
 
-/// A row gets a bit, is found from the first row and from itself on, and loses it again.
+/// A bitmap gets a bit, is found from the first bitmap and from itself on, and loses it again.
 fn finds_one_busy_row(rt: &impl Abort, rows: &mut IndexedRows, index: u32) {
     let place = index as usize;
     rows.put(place, 15, true);
@@ -149,7 +149,7 @@ fn finds_one_busy_row(rt: &impl Abort, rows: &mut IndexedRows, index: u32) {
     assert!(rt; rows.is_empty(), "without row {index}");
 }
 
-/// The rows of a list have a bit: from each on it is found, and from behind it the next one.
+/// Bitmaps of a list have a bit: from each on it is found, and from the place after it the next one.
 fn finds_each_busy_row(rt: &impl Abort, rows: &mut IndexedRows, busy: &[u32]) {
     for index in busy {
         rows.put(*index as usize, 0, true);
@@ -163,7 +163,7 @@ fn finds_each_busy_row(rt: &impl Abort, rows: &mut IndexedRows, busy: &[u32]) {
     same(rt, rows.next_busy(from), None);
 }
 
-/// Rows are found one by one, and then all of them.
+/// Bitmaps are found one by one, and then all of them.
 fn finds_rows(rt: &impl Abort, rows: &mut IndexedRows, busy: &[u32]) {
     for index in busy {
         finds_one_busy_row(rt, rows, *index);
@@ -171,7 +171,7 @@ fn finds_rows(rt: &impl Abort, rows: &mut IndexedRows, busy: &[u32]) {
     finds_each_busy_row(rt, rows, busy);
 }
 
-/// Nothing is found behind the last row, and the rows that are cleared no more.
+/// Nothing is found after the last bitmap, and cleared bitmaps no longer.
 fn loses_rows(rt: &impl Abort, rows: &mut IndexedRows) {
     rows.put(8_192, 0, true);
     same(rt, rows.next_busy(8_192), None);

@@ -1,15 +1,15 @@
-//! What is found is what is wanted. An assertion of its own costs a test some seconds of proof, and
-//! one that is made here next to nothing.
+//! Assertions that two values are equal. An assertion in a test takes some seconds of proof, a call of one here next
+//! to none.
 
 use std::fmt::{Debug, Display};
 use std::process::Abort;
 
-/// Two values are the same.
+/// Asserts that two values are equal.
 pub fn same<T: PartialEq + Debug + Drop>(rt: &impl Abort, found: T, wanted: T) {
     assert_eq!(rt; found, wanted);
 }
 
-/// Two values of a place are the same.
+/// Asserts that two values of a place are equal.
 pub fn same_at<P: Display + Drop, T: PartialEq + Debug + Drop>(
     rt: &impl Abort,
     place: P,

@@ -1,4 +1,4 @@
-//! Plans beside a loop that places objects by hand, and side arrays.
+//! Plans compared with a loop that places objects by hand, and forwarding tables.
 
 use crate::same::{same, same_at};
 use forward::{Plan, Side, Sides};
@@ -9,7 +9,7 @@ use std::process::Abort;
 use std::test::Fail;
 use test_support_samples::scatter;
 
-/// So many sizes without order, from 1 on.
+/// Returns `count` pseudorandom sizes, from 1 on.
 fn sizes(alloc: Global, count: u32, most: u32) -> Result<Vec<u32>, AllocError> {
     let mut sizes = Vec::with_capacity(alloc, count as usize)?;
     let mut number = u64::from(most);
@@ -47,7 +47,7 @@ fn places(
     Ok(())
 }
 
-/// In the last, an object that would fit into an earlier target goes behind the last one.
+/// In the last, an object that would fit into an earlier target goes after the last one.
 #[test]
 fn small_plans(rt: HostRuntime) -> Result<(), AllocError> {
     let alloc: Global = rt.alloc();
@@ -60,8 +60,8 @@ fn small_plans(rt: HostRuntime) -> Result<(), AllocError> {
     places(&rt, alloc, &[10, 12, 5, 4, 6], &behind, 3)
 }
 
-/// Each object stands behind the one before it, or at the head of the next target where the rest
-/// of the present one is too small.
+/// Each object follows the one before it, or is at the beginning of the next target if the rest of the present one is
+/// too small.
 fn follows(rt: &impl Abort, plan: &Plan, words: u32, sizes: &[u32]) {
     let mut target = 0usize;
     let mut rest = words;
@@ -78,7 +78,7 @@ fn follows(rt: &impl Abort, plan: &Plan, words: u32, sizes: &[u32]) {
     same(rt, plan.targets(), target.saturating_add(1));
 }
 
-/// A plan of 2,000 objects, on pages of so many words.
+/// A plan of 2,000 objects, on pages of a number of words.
 fn plans(rt: &impl Abort, alloc: Global, words: u32, most: u32) -> Result<(), AllocError> {
     let sizes = sizes(alloc, 2000, most)?;
     follows(rt, &Plan::new(alloc, words, &sizes)?, words, &sizes);
@@ -95,7 +95,7 @@ fn plans_beside_a_loop(rt: HostRuntime) -> Result<(), AllocError> {
 
 const OFFSETS: [u32; 5] = [0, 3, 4, 9, 15];
 
-/// A row of 16 places, of which these are set.
+/// Returns a bitmap of 16 places, of which these are set.
 pub fn live(alloc: Global, offsets: &[u32]) -> Result<Row, AllocError> {
     let mut live = Row::new(alloc, 16)?;
     for offset in offsets {
@@ -104,7 +104,7 @@ pub fn live(alloc: Global, offsets: &[u32]) -> Result<Row, AllocError> {
     Ok(live)
 }
 
-/// A side array of a row of a page, with a place for each object.
+/// Returns a forwarding table for a page's bitmap, with a place for each object.
 pub fn side_of(alloc: Global, live: Row, places: Vec<Addr>) -> Result<Side, Fail> {
     if live.len() > 32_768 || live.count() != places.len() {
         return Err("another row".into());
@@ -112,7 +112,7 @@ pub fn side_of(alloc: Global, live: Row, places: Vec<Addr>) -> Result<Side, Fail
     Ok(Side::new(alloc, live, places)?)
 }
 
-/// A side array of objects at these offsets, of which the one at 4 is copied.
+/// A forwarding table of objects at these offsets, of which the one at 4 is copied.
 fn five(alloc: Global, to: u64) -> Result<Side, Fail> {
     let to = Addr::new(to).ok_or("no address")?;
     let places = vec![in alloc; to; OFFSETS.len()]?;
@@ -121,7 +121,7 @@ fn five(alloc: Global, to: u64) -> Result<Side, Fail> {
     Ok(side)
 }
 
-/// What is found at offsets, and between and behind them.
+/// What is found at offsets, and between and after them.
 fn finds(rt: &impl Abort, side: &Side, offsets: &[u32]) {
     for offset in 0..20 {
         let found = side.find(offset).map(|entry| entry.offset);
@@ -185,12 +185,12 @@ fn ninths(sides: &Sides) -> [Option<u64>; 6] {
     PAGES.map(|page| Some(sides.entry_at(u64::from(page), 9)?.to.number()))
 }
 
-/// The offset of the fourth entry of each of these pages, if it has so many.
+/// The offset of the fourth entry of each of these pages, if it has four.
 fn fourths(sides: &Sides) -> [Option<u32>; 6] {
     PAGES.map(|page| Some(sides.entry_on(page, 3)?.offset))
 }
 
-/// Which of these pages have no entry that is still to be copied.
+/// Returns which of these pages have no uncopied entry.
 fn copied(sides: &Sides) -> [bool; 6] {
     PAGES.map(|page| sides.is_copied(page))
 }
@@ -245,7 +245,7 @@ fn copies_of_pages(rt: &impl Abort, sides: &mut Sides) {
     same(rt, copied(sides), [true, false, true, true, true, true]);
 }
 
-/// Page 1 has another side array, and all are let go.
+/// Page 1 has another forwarding table, and all are freed.
 fn clears(rt: &impl Abort, sides: &mut Sides) {
     same(rt, (sides.uncopied(), ninths(sides)[1]), (4, Some(64)));
     sides.clear_all();
@@ -254,10 +254,10 @@ fn clears(rt: &impl Abort, sides: &mut Sides) {
     same(rt, there, (true, false));
 }
 
-/// Side arrays that can be lent. A test hands its own on as these: to hold `Sides` over calls is dear
-/// to prove.
+/// Forwarding tables that can be borrowed. Tests pass theirs as these, since a proof with `Sides` that live over
+/// several calls takes long.
 trait HeldSides {
-    /// The side arrays.
+    /// Borrows the forwarding tables.
     fn sides(&mut self) -> &mut Sides;
 }
 

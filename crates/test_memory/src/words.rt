@@ -1,10 +1,10 @@
-//! Words of references.
+//! References.
 
 use crate::same::{same, same_at};
 use refword::{Addr, Word};
 use std::process::Abort;
 
-/// The word of an address, marked or not, and its bits.
+/// A reference of an address, marked or not, and its bits.
 fn word_of(number: u64, nmt: bool) -> Option<(Word, u64)> {
     let word = Word::of(Addr::new(number)?, nmt);
     Some((word, word.bits()))
@@ -21,8 +21,8 @@ fn has_bits(rt: &impl Abort, number: u64, nmt: bool, bits: u64) {
     }
 }
 
-/// With 16 words a page: the words of page 1 at offset 0 and of page 2 at offset 3. With 32,768: of
-/// page 40,000 at offset 5.
+/// With 16 words a page: the references to page 1, offset 0, and to page 2, offset 3. With 32,768: to page 40,000,
+/// offset 5.
 #[test]
 fn bits_of_words(rt: HostRuntime) {
     has_bits(&rt, 16, true, 0x8000_0000_0000_0010);

@@ -11,13 +11,13 @@ use std::thread::Threads;
 use std::time::Clock;
 use test_support_threads::team::{CELL, Job, PLACES, POLICY, TABLE, all_work, shared_heap};
 
-/// What each account has first.
+/// The coins of each account at first.
 const START: u64 = 1000;
 
 /// How often each thread moves money.
 const TURNS: u32 = 5000;
 
-/// A bank of accounts, in global 0.
+/// Makes a bank of accounts, in global 0.
 fn found_bank(alloc: Global, mutator: &mut impl MutatorCalls) -> Result<(), Refusal> {
     mutator.make(alloc, POLICY, 0, TABLE)?;
     for account in 0..PLACES {
@@ -28,7 +28,7 @@ fn found_bank(alloc: Global, mutator: &mut impl MutatorCalls) -> Result<(), Refu
     mutator.store_global(0, 0)
 }
 
-/// Moves one coin, and leaves an object that nobody keeps.
+/// Moves one coin, and leaves a garbage object.
 fn transfer(
     alloc: Global,
     mutator: &mut impl MutatorCalls,
@@ -46,7 +46,7 @@ fn transfer(
     Ok(())
 }
 
-/// What all accounts have.
+/// Returns the sum of all accounts.
 fn total(mutator: &mut impl MutatorCalls) -> Result<u64, Refusal> {
     let mut sum = 0u64;
     mutator.read_global(0, 0)?;
@@ -57,7 +57,7 @@ fn total(mutator: &mut impl MutatorCalls) -> Result<u64, Refusal> {
     Ok(sum)
 }
 
-/// A thread that moves money: it counts how often the sum wasn't what it is to be.
+/// A thread that moves money: it counts how often the sum was wrong.
 #[derive(Drop)]
 struct Teller {
     alloc: Global,
@@ -87,7 +87,7 @@ impl Job for Teller {
     }
 }
 
-/// A thread founds the bank.
+/// A thread makes the bank.
 fn found_by<R: Wait>(
     rt: &R,
     alloc: Global,
@@ -98,7 +98,7 @@ fn found_by<R: Wait>(
     found_bank(alloc, &mut *portion)
 }
 
-/// The bank is founded, if there is a thread.
+/// The bank is made, if there is a thread.
 fn found_first<R: Wait>(
     rt: &R,
     alloc: Global,
@@ -111,7 +111,7 @@ fn found_first<R: Wait>(
     }
 }
 
-/// All threads move money, and nobody ever sees another sum.
+/// All threads move money, and none ever reads another sum.
 fn all_move<R: Threads + Wait + Clock + Sync + Abort>(
     rt: &R,
     alloc: Global,
@@ -126,7 +126,7 @@ fn all_move<R: Threads + Wait + Clock + Sync + Abort>(
     Ok(())
 }
 
-/// So many threads move money; the heap is sound then.
+/// This many threads move money; the heap is sound then.
 fn the_sum_stays<R: Threads + Wait + Clock + Sync + Abort>(
     rt: &R,
     alloc: Global,

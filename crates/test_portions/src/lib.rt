@@ -1,4 +1,4 @@
-//! Tests of heaps that threads of the system share: what they keep from portion to portion, and how a heap is shared.
+//! Tests of heaps that system threads share: what threads keep from portion to portion, and how a heap is shared.
 #![tactic(auto)]
 
 #[cfg(test)]

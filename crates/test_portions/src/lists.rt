@@ -14,7 +14,7 @@ use test_support_threads::team::{CELL, Job, POLICY, all_work, shared_heap};
 /// How many objects a list has.
 const LENGTH: u32 = 200;
 
-/// How many lists a thread makes, one after another; all but the last die.
+/// How many lists a thread makes, one after another; all but the last become garbage.
 const LISTS: u32 = 20;
 
 /// Puts a number in front of the list in register 0.
@@ -25,7 +25,7 @@ fn push(alloc: Global, mutator: &mut impl MutatorCalls, value: u64) -> Result<()
     mutator.copy_register(0, 1)
 }
 
-/// The sum of the list in register 0, which stays there.
+/// Returns the sum of the list in register 0, which stays there.
 fn sum(mutator: &mut impl MutatorCalls) -> Result<u64, Refusal> {
     let mut sum = 0u64;
     mutator.copy_register(2, 0)?;
@@ -57,7 +57,7 @@ fn push_by<R: Wait>(
     push(alloc, &mut *portion, u64::from(value))
 }
 
-/// The sum of the thread's list.
+/// Returns the sum of the thread's list.
 fn sum_by<R: Wait>(rt: &R, shared: &SharedHeap, seat: &mut ThreadSeat) -> Result<u64, Refusal> {
     shared.with(rt, seat, |mutator| sum(mutator))
 }
@@ -74,7 +74,7 @@ impl Job for Maker {
     }
 }
 
-/// All threads make lists, and each finds its last one whole.
+/// All threads make lists, and each finds its last one complete.
 fn all_make<R: Threads + Wait + Clock + Sync + Abort>(
     rt: &R,
     alloc: Global,

@@ -1,4 +1,4 @@
-//! Heaps are shared, and aren't any more.
+//! Sharing heaps, and ending that.
 
 use crate::same::same;
 use collecting::Holding;
@@ -38,14 +38,14 @@ fn make_before(alloc: Global, heap: &mut impl Holding) -> Result<(), Refusal> {
     heap.set_datum(1, 0, 0, 9)
 }
 
-/// The datum, and then the next one.
+/// Returns the datum, and increments it.
 fn change(mutator: &mut impl MutatorCalls) -> Result<u64, Refusal> {
     let before = mutator.datum(0, 0)?;
     mutator.set_datum(0, 0, before.wrapping_add(1))?;
     Ok(before)
 }
 
-/// The same by the datum's lowest byte, which is copied to its place besides.
+/// The same by the datum's lowest byte, which is also copied to its place.
 fn change_byte(mutator: &mut impl MutatorCalls) -> Result<u64, Refusal> {
     let before = mutator.datum(0, 0)?;
     let mut byte = [0];
@@ -56,7 +56,7 @@ fn change_byte(mutator: &mut impl MutatorCalls) -> Result<u64, Refusal> {
     Ok(before)
 }
 
-/// A thread rests when nobody waits, and its portion goes on.
+/// A thread rests when no other waits, and its portion continues.
 fn changes<R: Wait>(
     rt: &R,
     shared: &SharedHeap,
@@ -71,20 +71,20 @@ fn changes<R: Wait>(
     Ok((before, thread))
 }
 
-/// What was made before a heap was shared is there, and stays when it isn't shared any more.
+/// An object from before a heap was shared is there, and stays when the heap isn't shared any more.
 fn stays(rt: &(impl Wait + Abort), shared: &SharedHeap, seats: &mut Seats) {
     if let Some(seat) = seats.threads.last_mut() {
         same(rt, changes(rt, shared, seat), Ok((10, 1)));
     }
 }
 
-/// After all threads were parked.
+/// Reads the datum after all threads were parked.
 fn read_after(heap: &mut impl Holding) -> Result<u64, Refusal> {
     heap.unpark(1)?;
     heap.datum(1, 0, 0)
 }
 
-/// A heap in which that was made is shared, and then isn't any more.
+/// A heap with that object is shared, and then isn't any more.
 fn goes_on(
     rt: &(impl Wait + Abort),
     alloc: Global,
@@ -104,7 +104,7 @@ fn what_was_made_before_stays(rt: HostRuntime) -> Result<(), Fail> {
     Ok(())
 }
 
-/// Why a heap isn't shared; it ends the load then.
+/// Returns why a heap can't be shared, and then ends the load.
 fn refused(alloc: Global, heap: ManagedHeap) -> Option<Refusal> {
     match SharedHeap::open(alloc, heap, 1) {
         Ok(_) => None,

@@ -1,4 +1,4 @@
-//! A cycle empties the pages that it chooses, and gives their frames back.
+//! A cycle empties the pages that it chooses, and releases their frames.
 
 use crate::recorder::Recorder;
 use crate::rows::HeldSettled;
@@ -12,13 +12,13 @@ use std::sync::Wait;
 use std::test::Fail;
 use std::thread::Threads;
 
-/// Two pages of five objects, of which one lives in each: 3 words of 16.
+/// Two pages of five objects, one of which is live on each: 3 words of 16.
 const PAGES: &str =
     "heap words 16 frames 4 pages 8 threads 1 workers 2 registers 2 globals 2\nlayout 1 1\nt0 take 16\n\
     t0 new r0 0\nt0 storeg 0 r0\ntimes 4\nt0 new r1 0\nend\nt0 give\nt0 take 16\nt0 new r0 0\n\
     t0 storeg 1 r0\ntimes 4\nt0 new r1 0\nend\nt0 clear r0\nt0 clear r1\nw0 cycle ";
 
-/// Both pages are protected, copied and released: of 4 frames one is left for the objects that live.
+/// Both pages are protected, copied and released: of 4 frames one is left for the live objects.
 const BOTH: [Answer; 5] = [
     Answer::Protected {
         objects: 2,
@@ -30,7 +30,7 @@ const BOTH: [Answer; 5] = [
     Answer::Released { free: 3 },
 ];
 
-/// The answers of worker 0 to steps that move objects.
+/// Returns the answers of worker 0 to steps that move objects.
 fn moves(alloc: Global, history: &History) -> Result<Vec<Answer>, AllocError> {
     let mut answers = Vec::new(alloc);
     for index in 0..history.len() {
@@ -50,7 +50,7 @@ fn moves(alloc: Global, history: &History) -> Result<Vec<Answer>, AllocError> {
     Ok(answers)
 }
 
-/// What a run has moved, and how many frames are free in the end.
+/// Returns what a run has moved, and how many frames are free in the end.
 fn moved(
     rt: &impl Abort,
     alloc: Global,
@@ -65,7 +65,7 @@ fn moved(
     Ok(())
 }
 
-/// A cycle that empties pages of which at most `percent` words of a hundred live.
+/// A cycle that empties pages of which at most `percent` words of a hundred are live.
 fn cycle<R: Abort + Threads + Wait + Sync>(
     rt: &R,
     alloc: Global,

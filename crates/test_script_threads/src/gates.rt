@@ -1,4 +1,4 @@
-//! Two actors that run at once: a gate holds each until the other is where it is to be.
+//! Two actors that run in parallel: a gate holds each until the other has come to a step.
 
 use crate::rows::HeldSettled;
 use crate::same::same;
@@ -17,7 +17,7 @@ const SCRIPT: &str =
     t0 new r0 0\nt0 storeg 0 r0\nt0 load r1 r0 0\nt0 trap\nt0 heal\nt0 finish\nt1 getg r0 0\n\
     t1 store r0 0 r0\n";
 
-/// What has come so far, and whether a wait was given up.
+/// Which steps were done so far, and whether a wait was given up.
 #[derive(Drop)]
 struct Meeting {
     published: AtomicU64,
@@ -62,7 +62,7 @@ impl Gate for Meeting {
     }
 }
 
-/// The answer of an entry, where its step is `Heal`.
+/// Returns the answer of an entry, if its step is `Heal`.
 fn answer_of(entry: &Entry) -> Option<Answer> {
     if matches!(entry.step, Step::Heal) {
         Some(entry.answer)
@@ -71,7 +71,7 @@ fn answer_of(entry: &Entry) -> Option<Answer> {
     }
 }
 
-/// The answer of the entry of a number, where its step is `Heal`.
+/// Returns the answer of the entry of a number, if its step is `Heal`.
 fn answer_at(history: &History, index: usize) -> Option<Answer> {
     match history.get(index) {
         Some(found) => answer_of(found.entry()),
@@ -79,7 +79,7 @@ fn answer_at(history: &History, index: usize) -> Option<Answer> {
     }
 }
 
-/// The answer to the first `Heal` of a history.
+/// Returns the answer to the first `Heal` of a history.
 fn healed(history: &History) -> Option<Answer> {
     for index in 0..history.len() {
         if let Some(answer) = answer_at(history, index) {
@@ -89,12 +89,12 @@ fn healed(history: &History) -> Option<Answer> {
     None
 }
 
-/// The answer to the first `Heal` of a run that is settled.
+/// Returns the answer to the first `Heal` of a run that is settled.
 fn healed_of(held: impl HeldSettled + Drop) -> Option<Answer> {
     healed(held.settled().book.history())
 }
 
-/// What the first `Heal` of a run is answered. None where it isn't settled.
+/// Returns the answer to the first `Heal` of a run. `None` if it isn't settled.
 fn answered<R: Threads + Wait + Sync, G: Gate + Sync>(
     rt: &R,
     alloc: Global,

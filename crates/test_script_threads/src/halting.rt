@@ -10,13 +10,13 @@ use std::process::Abort;
 use std::sync::atomic::{AtomicU64, Ordering};
 use std::test::Fail;
 
-/// Thread 0 loads; thread 1 fills the history meanwhile, and is refused.
+/// Thread 0 loads; thread 1 fills the history meanwhile, and then a step of it is rejected.
 const SCRIPT: &str =
     "heap words 16 frames 1 pages 1 threads 2 workers 1 registers 2 globals 0 history 6\nlayout 1 0\n\
     t0 take 16\nt0 new r0 0\nt0 get r1 r0 0\nt1 null r0\nt1 null r0\nt1 null r0\nt1 null r0\nt1 null r0\n";
 
-/// A gate that holds thread 1 until thread 0 has begun its load, and thread 0 there until thread 1 was
-/// refused.
+/// A gate that holds thread 1 until thread 0 has begun its load, and thread 0 there until a step of thread 1 was
+/// rejected.
 #[derive(Drop)]
 struct Meeting {
     begun: AtomicU64,
@@ -58,7 +58,7 @@ impl Gate for Meeting {
     }
 }
 
-/// The history is full, no further step was asked for, and nobody has waited in vain.
+/// The history is full, no further step was begun, and no wait was given up.
 fn stopped(rt: &impl Abort, meeting: &Meeting, held: impl HeldSettled + Drop) {
     same(rt, held.settled().book.history().len(), 6);
     same(rt, meeting.asked.load(Ordering::SeqCst), 4);

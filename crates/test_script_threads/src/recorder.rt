@@ -1,4 +1,4 @@
-//! A gate that records what it is called for.
+//! A gate that records its calls.
 
 use cycle::{Actor, Step};
 use script_threads::Gate;
@@ -6,10 +6,10 @@ use std::alloc::{AllocError, Global};
 use std::sync::atomic::{AtomicU64, Ordering};
 use std::thread;
 
-/// The most calls that are recorded.
+/// The greatest number of calls that are recorded.
 const MOST: u32 = 4_096;
 
-/// Returns when a count has come so far, or after very many turns. Whether it has.
+/// Waits until a count is at least a number, or gives up after very many turns. Returns whether it is.
 pub fn reaches(count: &AtomicU64, wanted: u64) -> bool {
     for _ in 0..1_000_000_000u32 {
         if count.load(Ordering::SeqCst) >= wanted {
@@ -29,7 +29,7 @@ pub struct Recorder {
     parked: AtomicU64,
 }
 
-/// A number for an actor, below 256.
+/// Returns a number for an actor, below 256.
 fn actor_number(actor: Actor) -> u64 {
     match actor {
         Actor::Thread(number) => u64::from(number).wrapping_mul(2),
@@ -37,14 +37,14 @@ fn actor_number(actor: Actor) -> u64 {
     }
 }
 
-/// A number for a step of these operands, each of them small.
+/// Returns a number for a step of these operands, each of them small.
 fn number(kind: u64, first: u32, second: u32, third: u32) -> u64 {
     let low = u64::from(first).wrapping_add(u64::from(second).wrapping_mul(64));
     let all = low.wrapping_add(u64::from(third).wrapping_mul(4_096));
     kind.wrapping_add(all.wrapping_mul(64))
 }
 
-/// A number for a thread's step, as far as scripts of these tests have it.
+/// Returns a number for a thread's step, for the steps in scripts of these tests.
 fn thread_step_number(step: &Step) -> u64 {
     match step {
         Step::Take(words) => number(1, *words, 0, 0),
@@ -71,7 +71,7 @@ fn thread_step_number(step: &Step) -> u64 {
     }
 }
 
-/// A number for a step, as far as scripts of these tests have it.
+/// Returns a number for a step, for the steps in scripts of these tests.
 pub fn step_number(step: &Step) -> u64 {
     match step {
         Step::StartMark => number(33, 0, 0, 0),
@@ -84,7 +84,7 @@ pub fn step_number(step: &Step) -> u64 {
     }
 }
 
-/// A call before or after a step of an actor.
+/// Returns a number for a call before or after a step of an actor.
 fn call(actor: Actor, step: &Step, is_after: bool) -> u64 {
     let pair = step_number(step)
         .wrapping_mul(256)
@@ -93,7 +93,7 @@ fn call(actor: Actor, step: &Step, is_after: bool) -> u64 {
 }
 
 impl Recorder {
-    /// One that holds worker 0 until `threads` threads have parked.
+    /// Returns one that holds worker 0 until `threads` threads have parked.
     pub fn new(alloc: Global, threads: u64) -> Result<Recorder, AllocError> {
         let mut calls = Vec::new(alloc);
         for _ in 0..MOST {
@@ -115,7 +115,7 @@ impl Recorder {
         }
     }
 
-    /// The call of a number, from 0.
+    /// Returns the call of a number, from 0.
     fn call(&self, index: u64) -> u64 {
         match self.calls.get(index as usize) {
             Some(call) => call.load(Ordering::SeqCst),
@@ -123,8 +123,7 @@ impl Recorder {
         }
     }
 
-    /// The steps of an actor, by their numbers, if its calls are pairs of `before` and `after` of one
-    /// step each.
+    /// Returns the steps of an actor, as numbers, if its calls are pairs of `before` and `after` of one step each.
     pub fn steps(&self, alloc: Global, actor: Actor) -> Result<Option<Vec<u64>>, AllocError> {
         let mut steps = Vec::new(alloc);
         let mut begun = None;

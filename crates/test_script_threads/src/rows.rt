@@ -16,7 +16,7 @@ pub const SCRIPT: &str =
     t1 new r1 0\nt1 set r1 0 1\nt1 store r1 0 r0\nt1 mov r0 r1\nt1 storeg 1 r0\nend\nt0 give\nt1 give\n\
     times 100\nt0 datum r0 0\nt0 get r0 r0 0\nt1 datum r0 0\nt1 get r0 r0 0\nend\ntimes 3\nw0 cycle 100\nend\n";
 
-/// The same with the first parts of three cycles alone: each mark copies what it meets.
+/// The same with only the first halves of three cycles: each mark copies the objects that it meets.
 const ROLLING: &str =
     "heap words 512 frames 8 pages 40 threads 2 workers 2 registers 4 globals 2\nlayout 1 1\nt0 take 300\n\
     t1 take 300\ntimes 100\nt0 new r1 0\nt0 set r1 0 1\nt0 store r1 0 r0\nt0 mov r0 r1\nt0 storeg 0 r0\n\
@@ -25,9 +25,9 @@ const ROLLING: &str =
 
 pub const OUTPUT: &str = "thread 0 births 100 data 100\nthread 1 births 100 data 100\nsettled\n";
 
-/// A run that is settled. A test hands its own on as one: to hold a `Settled` is dear to prove.
+/// A settled run. Tests pass theirs as one, since a proof with a `Settled` that lives over several calls takes long.
 pub trait HeldSettled {
-    /// The book and the seats of the run.
+    /// Borrows the recorded heap and the seats of the run.
     fn settled(&self) -> &Settled;
 }
 
@@ -37,7 +37,7 @@ impl HeldSettled for Settled {
     }
 }
 
-/// What is printed of a run that is settled.
+/// Returns what is printed for a settled run.
 fn printed(alloc: Global, held: impl HeldSettled + Drop) -> Option<Vec<u8>> {
     let mut output = Vec::new(alloc);
     match tell_threads(held.settled(), &mut output) {
@@ -46,7 +46,7 @@ fn printed(alloc: Global, held: impl HeldSettled + Drop) -> Option<Vec<u8>> {
     }
 }
 
-/// What a run by threads prints, where it is settled.
+/// Returns what a run by threads prints, if it is settled.
 pub fn raced<R: Threads + Wait + Sync>(
     rt: &R,
     alloc: Global,
@@ -55,7 +55,7 @@ pub fn raced<R: Threads + Wait + Sync>(
     Ok(printed(alloc, by_threads(rt, alloc, script, &OpenGate)?))
 }
 
-/// A script that is run fifty times, and prints the same each time.
+/// Runs a script fifty times: it prints the same each time.
 fn settles<R: Abort + Threads + Wait + Sync>(rt: &R, alloc: Global, script: &Script) {
     for _ in 0..50u32 {
         match raced(rt, alloc, script) {

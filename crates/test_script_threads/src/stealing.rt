@@ -13,7 +13,7 @@ use std::thread::{Threads, join};
 /// How many hints there are.
 const COUNT: u64 = 1_000;
 
-/// How often each number up to the last was taken, and, at 0, how often one that nobody pushed: never yet.
+/// How often each number up to the last was taken, and, at 0, how often one that was never pushed: not yet.
 fn none_taken(alloc: Global) -> Result<Vec<u64>, AllocError> {
     let mut counts = Vec::new(alloc);
     for _ in 0..=COUNT {
@@ -22,7 +22,7 @@ fn none_taken(alloc: Global) -> Result<Vec<u64>, AllocError> {
     Ok(counts)
 }
 
-/// One more is taken.
+/// Counts a number that was taken.
 fn note(counts: &mut [u64], number: u64) {
     let place = if number > COUNT { 0 } else { number };
     if let Some(count) = counts.get_mut(place as usize) {
@@ -78,7 +78,7 @@ fn pop_all(rt: &impl Abort, mut seat: HintSeat, counts: &mut [u64]) {
     same(rt, pop(&mut seat), None);
 }
 
-/// How often a number was taken.
+/// Returns how often a number was taken.
 fn count_of(counts: &[u64], number: u64) -> u64 {
     match counts.get(number as usize) {
         Some(count) => *count,
@@ -86,7 +86,7 @@ fn count_of(counts: &[u64], number: u64) -> u64 {
     }
 }
 
-/// Of both lists together each number was taken once, and none that nobody pushed.
+/// By both lists together each number was taken once, and none that was never pushed.
 fn each_is_taken_once(rt: &impl Abort, popped: &[u64], stolen: &[u64]) {
     for number in 0..=COUNT {
         let count = count_of(popped, number).wrapping_add(count_of(stolen, number));
@@ -94,7 +94,7 @@ fn each_is_taken_once(rt: &impl Abort, popped: &[u64], stolen: &[u64]) {
     }
 }
 
-/// The owner pushes and pops while the thief steals, and pops what is left then.
+/// The owner pushes and pops while the thief steals, and then pops the rest.
 fn run<R: Abort + Threads>(rt: &R, owner: HintSeat, thief: HintSeat, counts: (Vec<u64>, Vec<u64>)) {
     let (popped, stolen) = counts;
     let flag = AtomicU64::new(0);

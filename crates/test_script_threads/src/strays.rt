@@ -1,4 +1,4 @@
-//! Seats of one book, settled with another.
+//! Seats of one recorded heap, settled with another.
 
 use crate::same::same;
 use cycle::{Actor, Answer, Book, Step};
@@ -10,12 +10,12 @@ use std::sync::Wait;
 use std::test::Fail;
 use test_support_samples::shared_by_two;
 
-/// A book that is shared, and its seats.
+/// Shares a recorded heap, with its seats.
 fn open(alloc: Global, book: Book) -> Result<(Shared, Vec<Seat>), AllocError> {
     Shared::open(alloc, book).ok().ok_or(AllocError)
 }
 
-/// A new book.
+/// Returns a new recorded heap.
 fn new_book(alloc: Global) -> Result<Book, Fail> {
     match Book::new(alloc, shared_by_two(alloc)?) {
         Ok(book) => Ok(book),
@@ -23,7 +23,7 @@ fn new_book(alloc: Global) -> Result<Book, Fail> {
     }
 }
 
-/// The first thread of a shared book takes a page.
+/// The first thread of a shared recorded heap takes a page.
 fn take(rt: &(impl Abort + Wait), shared: &Shared, seats: &mut [Seat]) {
     match seats.first_mut() {
         Some(seat) => {
@@ -34,19 +34,19 @@ fn take(rt: &(impl Abort + Wait), shared: &Shared, seats: &mut [Seat]) {
     }
 }
 
-/// The seats that were settled with a book.
+/// Returns the seats that were settled with a recorded heap.
 fn seats_in(settled: Settled) -> Vec<Seat> {
     let Settled { book, seats } = settled;
     drop(book);
     seats
 }
 
-/// The seats that come back where they are settled with their own book.
+/// Returns the seats after they are settled with their own recorded heap.
 fn settled(shared: Shared, seats: Vec<Seat>) -> Option<Vec<Seat>> {
     settle(shared.into_book(), seats).ok().map(seats_in)
 }
 
-/// The stray of a book that is settled with these seats.
+/// Returns the stray of a recorded heap that is settled with these seats.
 fn stray_of(shared: Shared, seats: Vec<Seat>) -> Option<Actor> {
     match settle(shared.into_book(), seats).err() {
         Some(stray) => Some(stray.actor),
@@ -54,7 +54,7 @@ fn stray_of(shared: Shared, seats: Vec<Seat>) -> Option<Actor> {
     }
 }
 
-/// The stray of a book whose first thread has taken a page, with the seats of another book.
+/// Returns the stray of a recorded heap whose first thread has taken a page, with the seats of another one.
 fn stray_with(
     rt: &(impl Abort + Wait),
     shared: Shared,
@@ -68,14 +68,14 @@ fn stray_with(
     }
 }
 
-/// The seats of a new book, which were settled with it.
+/// Returns the seats of a new recorded heap, which were settled with it.
 fn seats_of_new(alloc: Global) -> Result<Option<Vec<Seat>>, Fail> {
     let book = new_book(alloc)?;
     let (shared, seats) = open(alloc, book)?;
     Ok(settled(shared, seats))
 }
 
-/// The stray of a new book with the seats of another one.
+/// Returns the stray of a new recorded heap with the seats of another one.
 fn stray(rt: &(impl Abort + Wait), alloc: Global) -> Result<Option<Actor>, Fail> {
     let others = seats_of_new(alloc)?;
     let book = new_book(alloc)?;
@@ -83,7 +83,7 @@ fn stray(rt: &(impl Abort + Wait), alloc: Global) -> Result<Option<Actor>, Fail>
     Ok(stray_with(rt, shared, seats, others))
 }
 
-/// A stray actor is told by this line.
+/// A stray actor has this line.
 fn is_told(rt: &impl Abort, alloc: Global, actor: Actor, line: &str) {
     let mut output = Vec::new(alloc);
     same(rt, tell_stray(actor, &mut output).is_ok(), true);

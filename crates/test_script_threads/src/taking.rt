@@ -1,9 +1,9 @@
-//! Hints as numbers. These calls promise nothing, so that the proofs of tests with many of them are short.
+//! Hints as numbers. These calls have no contracts, so that the proofs of tests with many of them are short.
 
 use hints::{HintSeat, Hints};
 use refword::Addr;
 
-/// Pushes a number. False where it comes back.
+/// Pushes a number. Returns false if it comes back.
 pub fn push(seat: &mut HintSeat, number: u64) -> bool {
     match Addr::new(number) {
         Some(hint) => Hints::push(seat, hint).is_ok(),
@@ -11,7 +11,7 @@ pub fn push(seat: &mut HintSeat, number: u64) -> bool {
     }
 }
 
-/// The oldest number of the seat's own.
+/// Takes the oldest number of the seat's own deque.
 pub fn pop(seat: &mut HintSeat) -> Option<u64> {
     match Hints::pop(seat) {
         Some(hint) => Some(hint.number()),
@@ -19,7 +19,7 @@ pub fn pop(seat: &mut HintSeat) -> Option<u64> {
     }
 }
 
-/// The oldest number of another worker's.
+/// Takes the oldest number of another worker's deque.
 pub fn steal(seat: &mut HintSeat, from: u32) -> Option<u64> {
     match Hints::steal(seat, from) {
         Some(hint) => Some(hint.number()),

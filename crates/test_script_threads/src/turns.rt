@@ -1,4 +1,4 @@
-//! Hints come out oldest first, and of the deque that a steal names.
+//! Hints are taken oldest first, and from the deque of a steal's worker.
 
 use crate::same::{same, same_at};
 use crate::taking::{pop, push, steal};
@@ -6,7 +6,7 @@ use hints::{HintSeat, Hints};
 use std::process::Abort;
 use std::test::Fail;
 
-/// How many hints there are: more than a deque begins with.
+/// How many hints there are: more than a deque's first slots.
 const COUNT: u64 = 200;
 
 /// The owner pushes all.
@@ -16,7 +16,7 @@ fn push_all(rt: &impl Abort, owner: &mut HintSeat) {
     }
 }
 
-/// The owner and the thief take them in turns.
+/// The owner and the thief take them in turn.
 fn take_all(rt: &impl Abort, owner: &mut HintSeat, thief: &mut HintSeat) {
     for number in 1..=COUNT {
         let found = if number % 2 == 0 {
@@ -28,8 +28,8 @@ fn take_all(rt: &impl Abort, owner: &mut HintSeat, thief: &mut HintSeat) {
     }
 }
 
-/// Nothing is left, nor has the thief got any of its own. A seat steals nothing of its own deque, nor of
-/// one that isn't there.
+/// No hint is left, nor has the thief any of its own. A seat steals nothing from its own deque, nor from one that
+/// doesn't exist.
 fn is_over(rt: &impl Abort, owner: &mut HintSeat, thief: &mut HintSeat) {
     same(rt, pop(owner), None);
     same(rt, steal(thief, 0), None);

@@ -1,6 +1,5 @@
-//! Hints and runs by threads where memory is refused. These tests are run with each of their requests for
-//! memory refused in turn: the same call is done when it is made again. A test ends with want of memory
-//! then, else well.
+//! Hints and runs by threads when out of memory. These tests are run with each of their allocations failing in turn:
+//! the same call is done when it is repeated. A test then fails as out of memory, else it succeeds.
 
 use crate::rows::{OUTPUT, SCRIPT, raced};
 use crate::same::{same, same_at};
@@ -15,10 +14,10 @@ use std::sync::Wait;
 use std::test::Fail;
 use std::thread::Threads;
 
-/// How many hints there are: more than a deque begins with, and than it grows to at once.
+/// How many hints there are: more than a deque's first slots, and than those after its first growth.
 const COUNT: u64 = 200;
 
-/// Pushes a number; it comes back where the deque doesn't take it.
+/// Pushes a number; returns it if there is no space for it.
 fn push_or_back(seat: &mut HintSeat, number: u64) -> Option<u64> {
     let hint = Addr::new(number)?;
     match Hints::push(seat, hint) {
@@ -27,7 +26,7 @@ fn push_or_back(seat: &mut HintSeat, number: u64) -> Option<u64> {
     }
 }
 
-/// Pushes a number, and again where it comes back. Whether it came back.
+/// Pushes a number, and again if it comes back. Returns whether it did.
 fn pushes(rt: &impl Abort, seat: &mut HintSeat, number: u64) -> bool {
     let back = push_or_back(seat, number);
     if back.is_none() {
@@ -38,7 +37,7 @@ fn pushes(rt: &impl Abort, seat: &mut HintSeat, number: u64) -> bool {
     true
 }
 
-/// Pushes all numbers. Whether one came back.
+/// Pushes all numbers. Returns whether one came back.
 fn pushes_all(rt: &impl Abort, seat: &mut HintSeat) -> bool {
     let mut lacked = false;
     for number in 1..=COUNT {
@@ -49,7 +48,7 @@ fn pushes_all(rt: &impl Abort, seat: &mut HintSeat) -> bool {
     lacked
 }
 
-/// All come out, oldest first, and no other.
+/// All are popped, oldest first, and no other.
 fn pops_all(rt: &impl Abort, seat: &mut HintSeat) {
     for number in 1..=COUNT {
         same_at(rt, number, pop(seat), Some(number));
@@ -57,7 +56,7 @@ fn pops_all(rt: &impl Abort, seat: &mut HintSeat) {
     same(rt, pop(seat), None);
 }
 
-/// Seats of two workers, and whether they were made the second time alone.
+/// Returns the seats of two workers, and whether they could be made only the second time.
 fn made(alloc: Global) -> Result<(Vec<HintSeat>, bool), AllocError> {
     if let Ok(seats) = Hints::new(alloc, 2) {
         return Ok((seats, false));
@@ -79,7 +78,8 @@ fn hints_come_back(rt: HostRuntime) -> Result<(), Fail> {
     }
 }
 
-/// What a run by threads prints; nothing where it ends with another fault than want of memory.
+/// Returns what a run by threads prints; nothing if it fails with another error than `Memory`. Fails only if out of
+/// memory.
 fn output_of<R: Threads + Wait + Sync>(
     rt: &R,
     alloc: Global,
@@ -92,7 +92,7 @@ fn output_of<R: Threads + Wait + Sync>(
     }
 }
 
-/// A run by threads, and a second one where the first lacked memory.
+/// Does a run by threads, and a second one if the first was out of memory.
 fn races<R: Abort + Threads + Wait + Sync>(
     rt: &R,
     alloc: Global,

@@ -1,4 +1,4 @@
-//! What a gate that watches is called for: the steps of the history, one after another.
+//! The calls of a gate that watches: the steps of the history, one after another.
 
 use crate::recorder::{Recorder, step_number};
 use crate::rows::HeldSettled;
@@ -18,13 +18,13 @@ const LIST: &str =
     times 4\nt0 new r1 0\nt0 store r1 0 r0\nt0 mov r0 r1\nend\nt0 storeg 0 r0\nt0 clear r1\nt0 clear r0\n\
     w0 cycle 0\n";
 
-/// Two objects that name a third one, which so has two hints.
+/// Two objects that refer to a third one, for which there are two hints.
 const TWICE: &str =
     "heap words 16 frames 2 pages 4 threads 1 workers 1 registers 2 globals 2\nlayout 1 0\nt0 take 16\n\
     t0 new r0 0\nt0 new r1 0\nt0 store r1 0 r0\nt0 storeg 0 r1\nt0 new r1 0\nt0 store r1 0 r0\n\
     t0 storeg 1 r1\nt0 clear r0\nt0 clear r1\nw0 cycle 0\n";
 
-/// The steps that a history has of an actor, by their numbers.
+/// Returns the steps of an actor in a history, as numbers.
 fn entered(alloc: Global, history: &History, actor: Actor) -> Result<Vec<u64>, AllocError> {
     let mut steps = Vec::new(alloc);
     for index in 0..history.len() {
@@ -38,7 +38,7 @@ fn entered(alloc: Global, history: &History, actor: Actor) -> Result<Vec<u64>, A
     Ok(steps)
 }
 
-/// How often a step is in a list.
+/// Returns how often a step is in a list.
 fn count_of(steps: &[u64], step: &Step) -> usize {
     let wanted = step_number(step);
     let mut count = 0usize;
@@ -66,7 +66,7 @@ fn watched(
     Ok(())
 }
 
-/// The gate of the list has seen each step of the history, and no other.
+/// The gate of the list was called for each step of the history, and no other.
 fn all_watched(
     rt: &impl Abort,
     alloc: Global,
@@ -78,7 +78,7 @@ fn all_watched(
     watched(rt, alloc, recorder, history, Actor::Worker(0), 16)
 }
 
-/// An object with two hints is scanned once, and picked in vain once more.
+/// An object with two hints is scanned once, and a second pick of it fails.
 fn picked_in_vain(
     rt: &impl Abort,
     alloc: Global,
@@ -98,7 +98,7 @@ fn picked_in_vain(
     Ok(())
 }
 
-/// A script that is parsed.
+/// Returns a parsed script.
 fn script_of(alloc: Global, text: &str) -> Result<Script, Fail> {
     Ok(parse(alloc, text.as_bytes())?)
 }

@@ -16,8 +16,7 @@ use std::thread::Threads;
 /// How many lists there are, each in a global.
 const LISTS: u32 = 40;
 
-/// A gate that watches nothing, as far as scans go; it holds worker 0 before the mark until the lists are
-/// there.
+/// A gate that doesn't watch scans; it holds worker 0 before the mark until the lists exist.
 #[derive(Drop)]
 struct Parked {
     count: AtomicU64,
@@ -57,7 +56,7 @@ fn text(alloc: Global) -> Result<String, AllocError> {
     Ok(text)
 }
 
-/// Whether the entry of a number is a scan of a worker.
+/// Returns whether the entry of a number is a scan of a worker.
 fn is_scan(history: &History, index: usize, worker: u32) -> bool {
     match history.get(index) {
         Some(found) => {
@@ -68,7 +67,7 @@ fn is_scan(history: &History, index: usize, worker: u32) -> bool {
     }
 }
 
-/// How many scans a history has of a worker.
+/// Returns how many scans of a worker are in a history.
 fn scans(history: &History, worker: u32) -> u64 {
     let mut count = 0u64;
     for index in 0..history.len() {

@@ -1,5 +1,5 @@
-//! The tests of scripts that the program can't show: how they are read, what runs of them write where memory or a
-//! writer fails, and texts that no output has.
+//! Tests of scripts in addition to those that run the program: how they are read, what their runs write if out of
+//! memory or if a writer fails, and texts that no output has.
 #![tactic(auto)]
 
 #[cfg(test)]

@@ -1,5 +1,5 @@
-//! A protection that is refused memory. The test runs with each of its memory requests refused in turn, and ends with
-//! `Memory` if the step was refused.
+//! A protection that is out of memory. The test runs with each of its allocations failing in turn, and ends with
+//! `Memory` if the step was out of memory.
 
 use crate::same::same;
 use cycle::{Actor, Answer, Book, Reply, Step};
@@ -31,28 +31,28 @@ const PROTECTED: Reply = Ok(Answer::Protected {
     targets: 1,
 });
 
-/// Writes the report of a book to a list.
+/// Writes the report of a recorded heap to a list.
 fn reported(alloc: Global, book: &Book) -> Result<Vec<u8>, RunFault> {
     let mut written = Vec::new(alloc);
     report(alloc, book.heap(), book.history(), &mut written)?;
     Ok(written)
 }
 
-/// A book has this report.
+/// A recorded heap has this report.
 fn has_report(rt: &impl Abort, alloc: Global, book: &Book, wanted: &str) -> Result<(), RunFault> {
     let written = reported(alloc, book)?;
     same(rt, written.as_slice(), wanted.as_bytes());
     Ok(())
 }
 
-/// Asks for the protection of page 1.
+/// Requests the protection of page 1.
 fn protect(alloc: Global, book: &mut Book) -> Result<Reply, AllocError> {
     let pages = PageList::new(Vec::from_slice(alloc, &[1])?);
     Ok(act(book, Actor::Worker(0), Step::Protect(pages)))
 }
 
-/// Protects the page after a mark. If the step is refused memory, the report is the same as before, and the step
-/// succeeds when it is asked again.
+/// Protects the page after a mark. If the step is out of memory, the report is the same as before, and the step
+/// succeeds when it is repeated.
 fn protects(
     rt: &impl Abort,
     alloc: Global,

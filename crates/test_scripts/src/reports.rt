@@ -1,4 +1,4 @@
-//! What a report says of a history that no script of today has.
+//! The report of a history that no current script has.
 
 use crate::same::same;
 use cycle::{Actor, Answer, Book, History, Step};
@@ -8,7 +8,7 @@ use std::process::Abort;
 use std::test::Fail;
 use test_support_books::{HeldBook, small_book};
 
-/// What a report of a new heap says of the answers to these ends of marks.
+/// Returns the report of a new heap, with these answers to ends of marks.
 fn told(alloc: Global, book: &Book, answers: &[Answer]) -> Result<Vec<u8>, RunFault> {
     let mut history = History::new(alloc);
     for answer in answers {

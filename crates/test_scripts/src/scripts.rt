@@ -1,7 +1,7 @@
-//! Scripts that are read. Their faults are tested by the program itself, on `tests/faults.txt`.
+//! Reading scripts. The program itself tests their faults, by `tests/faults.txt`.
 //!
-//! `rt try --test --fail-alloc N` refuses the Nth allocation of a test: `parse` then says that it
-//! is out of memory.
+//! `rt try --test --fail-alloc N` lets the Nth allocation of a test fail: `parse` then returns that it is out of
+//! memory.
 
 use crate::same::same;
 use layout::Layout;
@@ -21,14 +21,14 @@ fn parse_parts(alloc: Global, front: &str, rest: &str) -> Result<Script, ParseFa
     parse(alloc, text.as_bytes())
 }
 
-/// The first step of an order, and what follows it.
+/// Returns the first step of an order, and what follows it, as a text.
 fn step_text(alloc: Global, order: &Order) -> Result<String, AllocError> {
     let step = order.step(alloc)?;
     let then = order.then();
     format!(in alloc; "{step:?} {then:?}")
 }
 
-/// The orders' steps have these texts.
+/// Returns whether the orders' steps have these texts.
 fn has_steps(alloc: Global, script: &Script, texts: &[&str]) -> Result<bool, AllocError> {
     let mut is_so = script.commands().len() == texts.len();
     for (command, text) in script.commands().iter().zip(texts.iter()) {
@@ -116,7 +116,7 @@ fn the_size_of_a_command(rt: HostRuntime) {
     same(&rt, std::mem::size_of::<Command>(), 48);
 }
 
-/// The numbers of the head.
+/// The configuration has the numbers of the heap line.
 fn has_numbers(rt: &impl Abort, config: &Config) {
     same(rt, sizes(config), [16, 1, 1, 1, 1, 2, 0]);
     same(rt, (config.births, config.history), (1 << 32, 1_000_000));

@@ -1,5 +1,5 @@
-//! Texts that the output of no script has. `tests/scripts.sh` compares the others: scripts come to each
-//! other refusal and answer, and their reports have each phase, page and word.
+//! Texts that the output of no script has. `tests/scripts.sh` compares the others: scripts cause each other error and
+//! answer, and their reports have each phase, state of a page and reference.
 
 use crate::same::same;
 use model::{PageState, Refusal};

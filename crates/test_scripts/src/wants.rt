@@ -1,6 +1,6 @@
-//! Scripts that are read, run and checked where memory is refused. These tests are run with each of their
-//! requests for memory refused in turn: the same call is done when it is made again. A test ends with want
-//! of memory then, or of writing where what is written to is a list in memory; else well.
+//! Scripts that are read, run and checked when out of memory. These tests are run with each of their allocations
+//! failing in turn: the same call is done when it is repeated. A test then fails as out of memory, or as the writer
+//! does if that is a list in memory; else it succeeds.
 
 use crate::same::same;
 use parser::{ParseFault, Script, parse};
@@ -26,33 +26,33 @@ const OUTPUT: &str =
 /// The last line of a check.
 const VERIFIED: &str = "verified 18\n";
 
-/// What running a script writes.
+/// Returns what running a script writes.
 fn run(alloc: Global, script: &Script) -> Result<Vec<u8>, RunFault> {
     let mut written = Vec::new(alloc);
     by_schedule(alloc, script, &mut written)?;
     Ok(written)
 }
 
-/// What checking a script writes.
+/// Returns what checking a script writes.
 fn checked(alloc: Global, script: &Script) -> Result<Vec<u8>, RunFault> {
     let mut written = Vec::new(alloc);
     let _ = by_check(alloc, script, &mut written)?;
     Ok(written)
 }
 
-/// What was written is the whole output.
+/// The complete output was written.
 fn is_output(rt: &impl Abort, written: &[u8]) {
     same(rt, written, OUTPUT.as_bytes());
 }
 
-/// What was written is the whole output of a check.
+/// The complete output of a check was written.
 fn is_checked(rt: &impl Abort, written: &[u8]) {
     let size = OUTPUT.len();
     same(rt, written.get(..size), Some(OUTPUT.as_bytes()));
     same(rt, written.get(size..), Some(VERIFIED.as_bytes()));
 }
 
-/// A script is read, and read again where that lacked memory. The second value tells that.
+/// Reads a script, and again if that was out of memory, which the second value tells.
 fn read(alloc: Global) -> Result<(Script, bool), ParseFault> {
     if let Ok(script) = parse(alloc, SCRIPT.as_bytes()) {
         return Ok((script, false));
@@ -60,7 +60,7 @@ fn read(alloc: Global) -> Result<(Script, bool), ParseFault> {
     Ok((parse(alloc, SCRIPT.as_bytes())?, true))
 }
 
-/// A script is run, and run again where that lacked memory.
+/// Runs a script, and again if that was out of memory.
 fn runs(rt: &impl Abort, alloc: Global, script: &Script) -> Result<(), RunFault> {
     match run(alloc, script) {
         Ok(written) => is_output(rt, &written),
@@ -72,7 +72,7 @@ fn runs(rt: &impl Abort, alloc: Global, script: &Script) -> Result<(), RunFault>
     Ok(())
 }
 
-/// A script is checked, and checked again where that lacked memory.
+/// Checks a script, and again if that was out of memory.
 fn checks(rt: &impl Abort, alloc: Global, script: &Script) -> Result<(), RunFault> {
     match checked(alloc, script) {
         Ok(written) => is_checked(rt, &written),

@@ -1,5 +1,5 @@
-//! Writers that fail in each mode: at some write, or when they are flushed. Words, scripts and files are
-//! tested by the program itself.
+//! Writers that fail in each mode: at some write, or when they are flushed. The program itself tests words, scripts
+//! and files.
 
 use cli::{AskFault, Asked, ask, serve};
 use std::alloc::Global;
@@ -16,11 +16,11 @@ const SCRIPT: &str =
 const OUTPUT: &str =
     "1 t0 lent 1.0\n2 t0 refused Null\nphase idle nmt 0 births 0 frames 1/1\npage 1 open frame 0 top 4 objects 0 live 0\nthread 0 running buffer 1.0-4 r0 - r1 -\nbarrier 0 loads 0 gc 0 nmt 0 healed 0 changed 0\n";
 
-/// What `check` writes: the same, and that the heap was verified twice.
+/// The output of `check`: the same, and that the heap was verified twice.
 const CHECKED: &str =
     "1 t0 lent 1.0\n2 t0 refused Null\nphase idle nmt 0 births 0 frames 1/1\npage 1 open frame 0 top 4 objects 0 live 0\nthread 0 running buffer 1.0-4 r0 - r1 -\nbarrier 0 loads 0 gc 0 nmt 0 healed 0 changed 0\nverified 2\n";
 
-/// What the words of a line ask for.
+/// Returns what the words of a line request.
 fn words_asked(alloc: Global, line: &str) -> Result<Asked, AskFault> {
     let mut words = Vec::new(alloc);
     for word in line.split_whitespace() {
@@ -29,7 +29,7 @@ fn words_asked(alloc: Global, line: &str) -> Result<Asked, AskFault> {
     ask(alloc, &words)
 }
 
-/// What is asked for: the words, what is written then, and in how many writes behind a buffer of 8 bytes.
+/// The words, the output for them, and the number of writes with a buffer of 8 bytes.
 #[derive(Clone, Copy)]
 struct Script<'a> {
     words: &'a str,
@@ -37,7 +37,7 @@ struct Script<'a> {
     writes: u32,
 }
 
-/// Six lines, of which each is longer than the buffer.
+/// Six lines, each longer than the buffer.
 const RUN: Script<'static> = Script {
     words: "run a.script",
     output: OUTPUT,
@@ -51,15 +51,15 @@ const CHECK: Script<'static> = Script {
     writes: 7,
 };
 
-/// The first line comes in pieces: `thread 0`, ` births `, `0 data 0` and the line's end; the second at once.
+/// The first line is written in pieces: `thread 0`, ` births `, `0 data 0` and the line's end; the second at once.
 const THREADS: Script<'static> = Script {
     words: "threads a.script",
     output: "thread 0 births 0 data 0\nsettled\n",
     writes: 5,
 };
 
-/// A writer that takes a number of writes, of each at most so many bytes, and fails at the next. When it
-/// is flushed it fails too, where it is made so.
+/// A writer that accepts `left` writes of up to `most` bytes each, and fails at the next. Flushing fails too, unless
+/// `is_flushed`.
 #[derive(Drop)]
 struct Failing {
     left: u32,
@@ -90,7 +90,7 @@ impl Write for Failing {
     }
 }
 
-/// A writer that takes so many writes, of each at most so many bytes, and can be flushed.
+/// Returns a writer that accepts `left` writes of up to `most` bytes each, and can be flushed.
 fn made_to_fail(alloc: Global, left: u32, most: usize) -> Failing {
     Failing {
         left,
@@ -101,8 +101,8 @@ fn made_to_fail(alloc: Global, left: u32, most: usize) -> Failing {
     }
 }
 
-/// What serving the script gives by such a writer, behind a buffer of so many bytes: the status, the
-/// writer, and the errors.
+/// Runs the script with such a writer and a buffer of `capacity` bytes. Returns the status, the writer, and the
+/// errors.
 fn served_by(
     rt: &(impl Threads + Wait + Sync),
     alloc: Global,
@@ -119,8 +119,8 @@ fn served_by(
     Ok((status, writer, errors))
 }
 
-/// Behind a buffer of so many bytes a writer that can't take all makes status 3 and its fault, takes a
-/// beginning of the output, and isn't asked again; another one takes all.
+/// With a buffer of `capacity` bytes a writer that can't accept all causes status 3 and its error, gets a prefix of
+/// the output, and isn't called again; another one gets all.
 fn is_told(
     rt: &(impl Abort + Threads + Wait + Sync),
     alloc: Global,
@@ -144,8 +144,8 @@ fn is_told(
     Ok(())
 }
 
-/// Behind a buffer of so many bytes so many writes are needed, where each takes at most so many bytes,
-/// and a fault of each is told.
+/// With a buffer of `capacity` bytes and up to `most` bytes for each write, this many writes are needed, and the
+/// failure of each is reported.
 fn are_needed(
     rt: &(impl Abort + Threads + Wait + Sync),
     alloc: Global,
@@ -161,7 +161,7 @@ fn are_needed(
     Ok(())
 }
 
-/// What is written goes out line by line or in pieces behind a small buffer, and at once behind a large one.
+/// The output is written line by line or in pieces with a small buffer, and at once with a large one.
 #[test]
 fn each_write_fails(rt: HostRuntime) -> Result<(), Fail> {
     for what in [RUN, CHECK, THREADS] {
@@ -171,7 +171,7 @@ fn each_write_fails(rt: HostRuntime) -> Result<(), Fail> {
     Ok(())
 }
 
-/// A writer that takes a byte at a time gets all bytes, or those before its fault.
+/// A writer that accepts a byte at a time gets all bytes, or those before its failure.
 #[test]
 fn each_short_write_fails(rt: HostRuntime) -> Result<(), Fail> {
     for what in [RUN, CHECK, THREADS] {
@@ -182,7 +182,7 @@ fn each_short_write_fails(rt: HostRuntime) -> Result<(), Fail> {
     Ok(())
 }
 
-/// A writer that fails when it is flushed, behind a buffer of so many bytes.
+/// The failure of a writer that can't be flushed is reported, with a buffer of `capacity` bytes.
 fn flush_is_told(
     rt: &(impl Abort + Threads + Wait + Sync),
     alloc: Global,

@@ -1,4 +1,4 @@
-//! Pages that are worth to be emptied.
+//! Relocation sets.
 
 use crate::same::same;
 use choosing::choose;
@@ -9,7 +9,7 @@ use std::process::Abort;
 use std::test::Fail;
 use test_support_books::{FULL, HEAD, HeldBook, MARKED, act_all, book_of, script_of};
 
-/// At most so many words of a hundred are to be live: these pages of a book are chosen.
+/// With this percentage these pages of a recorded heap are chosen.
 fn chooses(
     rt: &impl Abort,
     alloc: Global,
@@ -22,7 +22,7 @@ fn chooses(
     Ok(())
 }
 
-/// Behind a script's steps no page is chosen by one limit, and the first one by another.
+/// After a script's steps no page is chosen by one percentage, and the first one by another.
 fn finds(
     rt: &impl Abort,
     alloc: Global,
@@ -38,7 +38,7 @@ fn finds(
     chooses(rt, alloc, book, limits.1, &[1])
 }
 
-/// The same on a new book.
+/// The same for a new recorded heap.
 fn finds_behind(
     rt: &impl Abort,
     alloc: Global,
@@ -54,7 +54,7 @@ fn finds_behind(
 const DEAD: &str =
     "t0 take 16\nt0 new r0 0\nt0 clear r0\nt0 give\nw0 mark\nt0 cross\nt1 cross\nw0 scang 0\nw0 endmark\n";
 
-/// Where a page has one object, of three words of sixteen, where nothing is live, and where there is room for one
+/// Choices if a page has one object, of three words of sixteen, if nothing is live, and if there is space for one
 /// page.
 #[test]
 fn pages_are_chosen(rt: HostRuntime) -> Result<(), Fail> {

@@ -1,4 +1,4 @@
-//! Drains by portions of a shared book, beside a drain by single steps of a book of one thread.
+//! Drains by quanta of a shared recorded heap, compared with a drain by single steps of one of a single thread.
 
 use crate::same::same;
 use crate::table::settles;
@@ -15,15 +15,15 @@ use test_support_books::{
     HEAD, HeldBook, HeldTable, MARKED, Table, act_all, ask, book_of, script_of, seat_of, table_of,
 };
 
-/// Behind a whole mark six objects of one list, of which the next mark has to scan all.
+/// After a complete mark, six objects of one list, all of which the next mark has to scan.
 const UNSCANNED: &str =
     "t1 take 16\ntimes 5\nt1 new r1 0\nt1 store r1 0 r0\nt1 mov r0 r1\nend\nt1 give\nw0 mark\nt0 cross\n\
     t1 cross\n";
 
-/// How many steps are accepted in all, of which the drain has 19.
+/// How many steps are accepted in all, 19 of them by the drain.
 const ENTRIES: usize = 55;
 
-/// Drains by portions of so many steps, to the end. How many portions that took.
+/// Drains by quanta of `most` steps, to the end. Returns how many quanta that took.
 fn portions(rt: &impl Wait, shared: &Shared, seat: &mut Seat, most: u32) -> Result<u32, Refusal> {
     let mut count = 0u32;
     for _ in 0..ENTRIES {
@@ -35,7 +35,7 @@ fn portions(rt: &impl Wait, shared: &Shared, seat: &mut Seat, most: u32) -> Resu
     Ok(count)
 }
 
-/// A script's steps at a table, and then a drain by portions of so many steps.
+/// Does a script's steps at a table, and then a drain by quanta of `most` steps.
 fn drained<R: Threads + Wait + Sync>(
     rt: &R,
     alloc: Global,
@@ -52,8 +52,8 @@ fn drained<R: Threads + Wait + Sync>(
     })
 }
 
-/// The same steps on a book, which is drained step by step; both books have the same history, and the
-/// seats agree with it.
+/// The same steps on a recorded heap, which is drained step by step: both have the same history, and the seats agree
+/// with it.
 fn agrees(
     rt: &impl Abort,
     alloc: Global,
@@ -77,7 +77,7 @@ fn refuses(rt: &(impl Abort + Wait), table: &mut Table) {
     }
 }
 
-/// A drain of a table by portions of so many steps takes so many of them.
+/// A drain of a table by quanta of `most` steps takes this many of them.
 fn drains_table<R: Abort + Threads + Wait + Sync>(
     rt: &R,
     alloc: Global,
@@ -92,7 +92,7 @@ fn drains_table<R: Abort + Threads + Wait + Sync>(
     agrees(rt, alloc, table, book_of(alloc, script)?, script)
 }
 
-/// The same of a new table.
+/// The same for a new table.
 fn drains<R: Abort + Threads + Wait + Sync>(
     rt: &R,
     alloc: Global,
@@ -104,7 +104,7 @@ fn drains<R: Abort + Threads + Wait + Sync>(
     drains_table(rt, alloc, table, &script, most, count)
 }
 
-/// Of 19 steps a portion of 19 can't tell that nothing is left.
+/// A quantum of 19 steps, which are all, can't detect that nothing is left.
 #[test]
 fn by_portions(rt: HostRuntime) -> Result<(), Fail> {
     for (most, count) in [(1, 20), (5, 4), (19, 2), (1_024, 1)] {

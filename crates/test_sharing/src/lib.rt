@@ -1,4 +1,4 @@
-//! The tests of shared books, compared with books of one thread, and of the choice of pages.
+//! The tests of shared recorded heaps, compared with those of one thread, and of relocation-set selection.
 #![tactic(auto)]
 
 #[cfg(test)]

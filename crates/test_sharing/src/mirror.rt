@@ -1,4 +1,4 @@
-//! The same steps, one by one, on a shared book and on a book of one thread.
+//! The same steps, one by one, on a shared recorded heap and on one of a single thread.
 
 use crate::same::same_at;
 use crate::table::settles;
@@ -13,7 +13,7 @@ use test_support_books::{
     HeldBook, HeldTable, Table, act, ask, book_of, image_of, script_of, shared_image, table_of,
 };
 
-/// The step of the command of a number on both books, whose answers and images are the same.
+/// Does the step of the command of a number on both, and compares their answers and images.
 fn both<R: Abort + Threads + Wait + Sync>(
     rt: &R,
     alloc: Global,
@@ -31,7 +31,7 @@ fn both<R: Abort + Threads + Wait + Sync>(
     Ok(())
 }
 
-/// A script's steps one by one at a table and on a book, to the end.
+/// Does a script's steps one by one at a table and on a recorded heap, to the end.
 fn all<R: Abort + Threads + Wait + Sync>(
     rt: &R,
     alloc: Global,
@@ -47,7 +47,7 @@ fn all<R: Abort + Threads + Wait + Sync>(
     settles(rt, alloc, table.settled(), book, entries)
 }
 
-/// The same, where the book is made. Who made the table doesn't hold it meanwhile.
+/// The same, with a recorded heap made here, so that the function that made the table doesn't have both.
 fn beside<R: Abort + Threads + Wait + Sync>(
     rt: &R,
     alloc: Global,
@@ -58,8 +58,8 @@ fn beside<R: Abort + Threads + Wait + Sync>(
     all(rt, alloc, table, book_of(alloc, script)?, script, entries)
 }
 
-/// The steps of a script are the same on both books, of which the shared one copies pages to a depth; so
-/// many are accepted.
+/// The steps of a script are the same on both, of which the shared one copies pages to a depth; this many are
+/// accepted.
 pub fn mirrors<R: Abort + Threads + Wait + Sync>(
     rt: &R,
     alloc: Global,
@@ -77,7 +77,7 @@ pub fn mirrors<R: Abort + Threads + Wait + Sync>(
     )
 }
 
-/// The same where the shared book was stopped before.
+/// The same if the shared one was stopped before.
 pub fn mirrors_stopped<R: Abort + Threads + Wait + Sync>(
     rt: &R,
     alloc: Global,

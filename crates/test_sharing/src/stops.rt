@@ -1,4 +1,4 @@
-//! Stops of shared books, and waits for a step that is refused for a while.
+//! Stopping shared recorded heaps, and waiting for a step that stalls.
 
 use crate::same::same;
 use cycle::{Actor, Answer, Reply, Step};
@@ -19,13 +19,13 @@ use test_support_books::{
 /// The marked object's page is protected, and one thread of two has crossed: it may not use the object yet.
 const HALF_CROSSED: &str = "w0 protect 1\nt0 cross\n";
 
-/// The step that is refused for a while.
+/// The step that stalls.
 const READ: Step = Step::Datum {
     object: 0,
     index: 0,
 };
 
-/// A table behind a script's steps.
+/// Returns a table after a script's steps.
 fn behind<R: Threads + Wait + Sync, T: HeldTable + Drop>(
     rt: &R,
     alloc: Global,
@@ -36,13 +36,13 @@ fn behind<R: Threads + Wait + Sync, T: HeldTable + Drop>(
     Ok(table)
 }
 
-/// A table where one thread has crossed.
+/// Returns a table where one thread has crossed.
 fn half_crossed<R: Threads + Wait + Sync>(rt: &R, alloc: Global) -> Result<Table, Fail> {
     let script = script_of(alloc, &[HEAD, MARKED, HALF_CROSSED])?;
     behind(rt, alloc, table_of(alloc, &script, 0)?, &script)
 }
 
-/// All steps of a script at a table.
+/// Does all steps of a script at a table.
 fn ask_all<R: Threads + Wait + Sync>(
     rt: &R,
     alloc: Global,
@@ -55,7 +55,7 @@ fn ask_all<R: Threads + Wait + Sync>(
     Ok(())
 }
 
-/// The lists of seats, as a text.
+/// Returns the lists of seats, as a text.
 fn lists_of(alloc: Global, seats: &[Seat]) -> Result<String, AllocError> {
     let mut text = String::new(alloc);
     for seat in seats {
@@ -64,7 +64,7 @@ fn lists_of(alloc: Global, seats: &[Seat]) -> Result<String, AllocError> {
     Ok(text)
 }
 
-/// A stop is seen from then on, and changes neither image nor lists.
+/// A stop is seen from then on, and changes neither the image nor the lists.
 fn sees_stop(rt: &(impl Abort + Wait), alloc: Global, table: &Table) -> Result<(), Fail> {
     let image = shared_image(rt, alloc, &table.shared)?;
     let lists = lists_of(alloc, &table.seats)?;
@@ -80,14 +80,14 @@ fn sees_stop(rt: &(impl Abort + Wait), alloc: Global, table: &Table) -> Result<(
     Ok(())
 }
 
-/// A step that is refused for a while is refused so, by a stopped book also where it is waited for.
+/// A step that stalls fails with `Stall`; if the heap was stopped, also one that would wait.
 fn stalls<R: Abort + Wait>(rt: &R, shared: &Shared, seat: &mut Seat) {
     same(rt, shared.step(rt, seat, READ), Err(Refusal::Stall));
     same(rt, shared.step_wait(rt, seat, READ), Err(Refusal::Stall));
     same(rt, shared.ask(rt, seat, &READ), Err(Refusal::Stall));
 }
 
-/// A table is stopped, and a step that would wait is refused then.
+/// A table is stopped, and then a step that would wait fails with `Stall`.
 fn is_stopped(
     rt: &(impl Abort + Wait),
     alloc: Global,
@@ -107,7 +107,7 @@ fn a_stop_is_seen(rt: HostRuntime) -> Result<(), Fail> {
     is_stopped(&rt, rt.alloc(), half_crossed(&rt, rt.alloc())?)
 }
 
-/// Returns when another thread has begun to ask and had time to wait.
+/// Returns when another thread has begun its call and had time to wait.
 fn linger(asking: &AtomicU64) {
     for _ in 0..1_000_000u32 {
         if asking.load(Ordering::SeqCst) > 0 {
@@ -120,13 +120,13 @@ fn linger(asking: &AtomicU64) {
     }
 }
 
-/// Asks for the step, and waits where it is refused for a while.
+/// Does the step, and waits while it stalls.
 fn wait<R: Wait>(rt: &R, shared: &Shared, seat: &mut Seat, asking: &AtomicU64) -> Reply {
     asking.store(1, Ordering::SeqCst);
     shared.step_wait(rt, seat, READ)
 }
 
-/// A thread waits, and another one stops the book.
+/// A thread waits, and another one stops the recorded heap.
 fn woken_by_stop<R: Threads + Wait + Sync>(rt: &R, shared: &Shared, waiting: &mut Seat) -> Reply {
     let asking = AtomicU64::new(0);
     let (reply, ()) = join(
@@ -140,7 +140,7 @@ fn woken_by_stop<R: Threads + Wait + Sync>(rt: &R, shared: &Shared, waiting: &mu
     reply
 }
 
-/// A thread waits, and another one does the crossing that is waited for. Both replies.
+/// A thread waits, and another one does the crossing for which it waits. Returns both replies.
 fn woken_by_step<R: Threads + Wait + Sync>(
     rt: &R,
     shared: &Shared,
@@ -191,7 +191,7 @@ fn a_stop_ends_a_wait(rt: HostRuntime) -> Result<(), Fail> {
     wakes_by_stop(&rt, half_crossed(&rt, rt.alloc())?)
 }
 
-/// At a table a thread waits, and is woken by a crossing, behind which the register is to be scrubbed first.
+/// At a table a thread waits, and is woken by a crossing, after which the register has to be scrubbed first.
 fn wakes_by_step<R: Abort + Threads + Wait + Sync>(rt: &R, mut held: impl HeldTable + Drop) {
     let table = held.table();
     let replies = first_waits(rt, &table.shared, &mut table.seats);

@@ -1,4 +1,4 @@
-//! Two histories that are the same.
+//! Two histories that are equal.
 
 use crate::same::{same, same_at};
 use cycle::{Book, History};
@@ -7,7 +7,7 @@ use std::process::Abort;
 use std::test::Fail;
 use test_support_books::{HeldBook, entry_text};
 
-/// Two histories have the same entries, so many.
+/// Two histories have the same entries, and this many.
 pub fn same_histories(
     rt: &impl Abort,
     alloc: Global,
@@ -25,7 +25,7 @@ pub fn same_histories(
     Ok(())
 }
 
-/// The history of a book is that of another one, of so many entries.
+/// The history of a recorded heap is that of another one, with this many entries.
 pub fn tells_the_same(
     rt: &impl Abort,
     alloc: Global,

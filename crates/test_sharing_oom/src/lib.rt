@@ -1,5 +1,4 @@
-//! What is left of books that are shared, or lent to their seats, where memory is refused: these tests are
-//! run with each of their requests for memory refused in turn.
+//! Tests of shared or borrowed recorded heaps when out of memory: each allocation of a test fails in turn.
 #![tactic(auto)]
 
 #[cfg(test)]

@@ -1,6 +1,6 @@
-//! A list of steps that is run by one call, and a mark that is drained by one, where memory is refused. These
-//! tests are run with each of their requests for memory refused in turn: a step of a list that lacks memory
-//! says so, and the others are done as if it weren't in the list. A test ends with want of memory then.
+//! A list of steps that is run by one call, and a mark that is drained by one, when out of memory. These tests are
+//! run with each of their allocations failing in turn: a step of a list that is out of memory has that reply, and the
+//! others are done as if it weren't in the list. A test then fails as out of memory.
 
 use crate::histories::same_histories;
 use crate::same::same;
@@ -16,7 +16,7 @@ use test_support_books::{HEAD, HeldBook, MARKED, act_all, book_of, image_of, scr
 const MOVED: &str =
     "w0 protect 1\nt0 cross\nt1 cross\nw0 copy 1 0\nw0 release 1\nt0 scrub r0\nt0 datum r0 0\n";
 
-/// The steps of a script's commands, without the one of this place, if there is one.
+/// Returns the steps of a script's commands, without the one at this place, if there is one.
 fn steps(
     alloc: Global,
     script: &Script,
@@ -31,7 +31,7 @@ fn steps(
     Ok(steps)
 }
 
-/// Replies without the one of this place, if there is one.
+/// Returns replies without the one at this place, if there is one.
 fn others(
     alloc: Global,
     replies: &[Reply],
@@ -46,15 +46,15 @@ fn others(
     Ok(others)
 }
 
-/// The place of the first step that lacked memory.
+/// Returns the place of the first step that was out of memory.
 fn lacking(replies: &[Reply]) -> Option<usize> {
     replies
         .iter()
         .position(|reply| *reply == Err(Refusal::Memory))
 }
 
-/// Runs a script's steps on a new book. Where the run lacks memory, the book is as it was, and it is run
-/// again. The second value tells that.
+/// Runs a script's steps on a new recorded heap. If the run is out of memory, the recorded heap is as it was, and the
+/// run is repeated, which the second value tells.
 fn run_again(
     rt: &impl Abort,
     alloc: Global,
@@ -73,8 +73,8 @@ fn run_again(
     Ok((run(alloc, book, second)?, true))
 }
 
-/// The replies of a book are those that another one gives to the list without the step that lacked memory;
-/// both heaps and both histories are the same then.
+/// The replies are those of another recorded heap to the list without the step that was out of memory; both heaps and
+/// both histories are the same then.
 fn agree(
     rt: &impl Abort,
     alloc: Global,
@@ -104,7 +104,7 @@ fn agree(
     )
 }
 
-/// Runs the steps of a script on one of two new books, and asks the other what it is to say.
+/// Runs the steps of a script on one of two new recorded heaps, and compares it with the other.
 fn runs_beside(
     rt: &impl Abort,
     alloc: Global,
@@ -120,7 +120,7 @@ fn runs_beside(
     Ok(())
 }
 
-/// The same, where one book is made. The test that made the other doesn't hold it meanwhile.
+/// The same, with one recorded heap made here, so that the test that made the other doesn't have both.
 fn runs(
     rt: &impl Abort,
     alloc: Global,
@@ -138,12 +138,12 @@ fn a_list_of_steps(rt: HostRuntime) -> Result<(), Fail> {
     runs(&rt, alloc, book_of(alloc, &script)?, &script)
 }
 
-/// A list of three objects, of which a mark has still to scan all.
+/// A list of three objects, all of which a mark has yet to scan.
 const UNSCANNED: &str =
     "t0 take 16\ntimes 3\nt0 new r1 0\nt0 store r1 0 r0\nt0 mov r0 r1\nend\nt0 storeg 0 r0\nw0 mark\n\
     t0 cross\nt1 cross\n";
 
-/// Drains a mark, and goes on where that lacks memory. Whether it did.
+/// Drains a mark, and continues if that is out of memory. Returns whether it was.
 fn drains_on(rt: &impl Abort, book: &mut Book, replies: &mut Vec<Reply>) -> bool {
     let end = book.drain(0, replies);
     if end == Err(Refusal::Memory) {
@@ -154,7 +154,7 @@ fn drains_on(rt: &impl Abort, book: &mut Book, replies: &mut Vec<Reply>) -> bool
     false
 }
 
-/// Both books come to the same by drains, of which the first may be one in two parts.
+/// Both recorded heaps are the same after drains, of which the first may be in two parts.
 fn drains_beside(
     rt: &impl Abort,
     alloc: Global,
@@ -181,7 +181,7 @@ fn drains_beside(
     }
 }
 
-/// The same, where one book is made. The test that made the other doesn't hold it meanwhile.
+/// The same, with one recorded heap made here, so that the test that made the other doesn't have both.
 fn drains(
     rt: &impl Abort,
     alloc: Global,

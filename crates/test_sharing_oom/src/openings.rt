@@ -1,6 +1,6 @@
-//! Books that are opened, and pages that are chosen, where memory is refused: the book comes back as it was,
-//! and the same call is done when it is made again. These tests are run with each of their requests for
-//! memory refused in turn, and end with want of memory then.
+//! Opening recorded heaps and choosing pages when out of memory: the recorded heap is returned as it was, and the
+//! same call is done when it is repeated. These tests are run with each of their allocations failing in turn, and
+//! then fail as out of memory.
 
 use crate::same::same;
 use choosing::choose;
@@ -13,19 +13,20 @@ use std::process::Abort;
 use std::test::Fail;
 use test_support_books::{FULL, HEAD, HeldBook, MARKED, act_all, book_of, image_of, script_of};
 
-/// A book that can be opened.
+/// A recorded heap that can be opened.
 trait Opening: Sized {
-    /// Opens it, and gives whether its seats agree with it; where that lacks memory, the book comes back.
+    /// Opens it, and returns whether its seats agree with it; if out of memory, returns the recorded heap as an
+    /// error.
     fn open(self, alloc: Global) -> Result<bool, Self>;
 
     /// Does a script's steps.
     fn act_all(&mut self, alloc: Global, script: &Script) -> Result<(), AllocError>;
 
-    /// The image of its heap, as a text, and how many entries it has.
+    /// Returns the image of its heap, as a text, and how many entries it has.
     fn seen(&self, alloc: Global) -> Result<(String, usize), AllocError>;
 }
 
-/// Whether the seats of a shared book agree with it.
+/// Returns whether the seats of a shared recorded heap agree with it.
 fn agrees(shared: Shared, seats: Vec<Seat>) -> bool {
     settle(shared.into_book(), seats).err().is_none()
 }
@@ -47,12 +48,12 @@ impl Opening for Book {
     }
 }
 
-/// Whether a book opens, and its seats agree with it.
+/// Returns whether a recorded heap opens, and its seats agree with it.
 fn opens(alloc: Global, book: impl Opening + Drop) -> bool {
     book.open(alloc).ok() == Some(true)
 }
 
-/// A book that has come back is as it was, and opens then.
+/// A recorded heap that was returned is as it was, and then opens.
 fn opens_again(
     rt: &impl Abort,
     alloc: Global,
@@ -66,7 +67,7 @@ fn opens_again(
     Err(AllocError)
 }
 
-/// A book of a script's steps is opened.
+/// Opens a recorded heap after a script's steps.
 fn opens_behind(
     rt: &impl Abort,
     alloc: Global,
@@ -91,7 +92,7 @@ fn a_book_is_opened(rt: HostRuntime) -> Result<(), Fail> {
     Ok(())
 }
 
-/// Of a heap the first page is chosen. Where that lacks memory, the heap is as it was.
+/// The first page of a heap is chosen. If out of memory, the heap is as it was.
 fn chooses(rt: &impl Abort, alloc: Global, heap: &Heap) -> Result<(), AllocError> {
     let before = image_of(alloc, heap)?;
     let chosen = choose(alloc, heap, 100);
@@ -106,7 +107,7 @@ fn chooses(rt: &impl Abort, alloc: Global, heap: &Heap) -> Result<(), AllocError
     Err(AllocError)
 }
 
-/// The same of a book behind a script's steps.
+/// The same for a recorded heap after a script's steps.
 fn chooses_behind(
     rt: &impl Abort,
     alloc: Global,

@@ -1,5 +1,5 @@
-//! Steps of books that are shared, or lent to their seats, where memory is refused: a step that lacks memory
-//! leaves all as it was, and is done when it is asked for again. A test ends with want of memory then.
+//! Steps of recorded heaps that are shared, or borrowed by their seats, when out of memory: a step that is out of
+//! memory leaves all as it was, and is done when it is repeated. A test then fails as out of memory.
 
 use crate::histories::tells_the_same;
 use crate::same::same;
@@ -17,22 +17,23 @@ use test_support_books::{
     image_of, script_of, seat_of, shared_image, table_of,
 };
 
-/// A book with the seats of its actors, to which it is lent.
+/// A recorded heap and the seats of its actors, which borrow it.
 #[derive(Drop)]
 struct Lent {
     book: Book,
     seats: Vec<Seat>,
 }
 
-/// A book that is lent. A test hands its own on as one: to hold it over calls is dear to prove.
+/// A recorded heap with its seats that can be borrowed. Tests pass theirs as one, since a proof with one that lives
+/// over several calls takes long.
 trait HeldLent: Sized {
-    /// A seat's step.
+    /// Does a seat's step.
     fn ask(&mut self, alloc: Global, command: &Command) -> Result<Reply, Fail>;
 
-    /// What its heap looks like; nothing, where nobody is to look.
+    /// Returns the image of its heap, as a text; an empty one unless `looks`.
     fn image(&self, alloc: Global, looks: bool) -> Result<String, AllocError>;
 
-    /// The book, where the seats' lists agree with its history.
+    /// Returns the recorded heap, if the seats' lists agree with its history.
     fn settled(self) -> Option<Book>;
 }
 
@@ -50,7 +51,7 @@ impl HeldLent for Lent {
     }
 }
 
-/// A seat's step on a lent book.
+/// Does a seat's step on a borrowed recorded heap.
 fn act_by(alloc: Global, lent: &mut Lent, command: &Command) -> Result<Reply, Fail> {
     let step = command.order.step(alloc)?;
     match seat_of(&mut lent.seats, command.actor) {
@@ -59,7 +60,7 @@ fn act_by(alloc: Global, lent: &mut Lent, command: &Command) -> Result<Reply, Fa
     }
 }
 
-/// What a lent book's heap looks like; nothing, where nobody is to look.
+/// Returns the image of a borrowed recorded heap, as a text; an empty one unless `looks`.
 fn lent_image(alloc: Global, lent: &Lent, looks: bool) -> Result<String, AllocError> {
     if looks {
         image_of(alloc, lent.book.heap())
@@ -68,7 +69,7 @@ fn lent_image(alloc: Global, lent: &Lent, looks: bool) -> Result<String, AllocEr
     }
 }
 
-/// What a shared heap looks like; nothing, where nobody is to look.
+/// Returns the image of a shared heap, as a text; an empty one unless `looks`.
 fn table_image<R: Wait>(
     rt: &R,
     alloc: Global,
@@ -82,7 +83,7 @@ fn table_image<R: Wait>(
     }
 }
 
-/// Whether a step lacked memory. Else its reply is the wanted one.
+/// Returns whether a step was out of memory. Else its reply is the expected one.
 fn lacks(rt: &impl Abort, reply: Reply, wanted: Reply) -> bool {
     if reply == Err(Refusal::Memory) {
         return true;
@@ -91,8 +92,8 @@ fn lacks(rt: &impl Abort, reply: Reply, wanted: Reply) -> bool {
     false
 }
 
-/// Asks for a command's step on a lent book, and again where it lacks memory; the heap is as it was then.
-/// Whether it lacked memory.
+/// Does a command's step on a borrowed recorded heap, and repeats it if it is out of memory; the heap is as it was
+/// then. Returns whether it was out of memory.
 fn asks_seat(
     rt: &impl Abort,
     alloc: Global,
@@ -112,7 +113,7 @@ fn asks_seat(
     Ok(true)
 }
 
-/// The same at a table.
+/// Does the same at a table.
 fn asks_table<R: Abort + Threads + Wait + Sync>(
     rt: &R,
     alloc: Global,
@@ -132,7 +133,7 @@ fn asks_table<R: Abort + Threads + Wait + Sync>(
     Ok(true)
 }
 
-/// Whether a command's step is one of those that ask for memory here, so that the heap is looked at.
+/// Returns whether a command's step is one of those that allocate here, so that the heap is compared.
 fn grows(command: &Command) -> bool {
     matches!(
         command.order.verb,
@@ -140,7 +141,7 @@ fn grows(command: &Command) -> bool {
     )
 }
 
-/// What a command's step says of a book of one thread.
+/// Returns the reply to a command's step on a recorded heap of one thread.
 fn reply_of(alloc: Global, book: &mut Book, command: &Command) -> Result<Reply, Fail> {
     let reply = act(book, command.actor, command.order.step(alloc)?);
     if reply == Err(Refusal::Memory) {
@@ -149,7 +150,7 @@ fn reply_of(alloc: Global, book: &mut Book, command: &Command) -> Result<Reply, 
     Ok(reply)
 }
 
-/// At the end the lists agree with the history, which is that of the other book; and want of memory is told.
+/// At the end the lists agree with the history, which is that of the other recorded heap. Fails if out of memory.
 fn ends(
     rt: &impl Abort,
     alloc: Global,
@@ -168,7 +169,7 @@ fn ends(
     Ok(())
 }
 
-/// All steps of a script at a table, beside those on a book; so many are accepted.
+/// Does all steps of a script at a table, and compares with those on a recorded heap; this many are accepted.
 fn all_at_table<R: Abort + Threads + Wait + Sync>(
     rt: &R,
     alloc: Global,
@@ -186,7 +187,7 @@ fn all_at_table<R: Abort + Threads + Wait + Sync>(
     ends(rt, alloc, table.settled(), book, entries, lacked)
 }
 
-/// The same, where the book is made. Who made the table doesn't hold it meanwhile.
+/// The same, with a recorded heap made here, so that the function that made the table doesn't have both.
 fn table_beside<R: Abort + Threads + Wait + Sync>(
     rt: &R,
     alloc: Global,
@@ -197,7 +198,7 @@ fn table_beside<R: Abort + Threads + Wait + Sync>(
     all_at_table(rt, alloc, table, book_of(alloc, script)?, script, entries)
 }
 
-/// The same on a lent book.
+/// The same on a borrowed recorded heap.
 fn seats_beside(
     rt: &impl Abort,
     alloc: Global,
@@ -215,7 +216,7 @@ fn seats_beside(
     ends(rt, alloc, lent.settled(), book, entries, lacked)
 }
 
-/// The same, where the other book is made. The test that made the lent one doesn't hold it meanwhile.
+/// The same, with the other recorded heap made here, so that the test that made the borrowed one doesn't have both.
 fn all_by_seats(
     rt: &impl Abort,
     alloc: Global,
@@ -226,7 +227,7 @@ fn all_by_seats(
     seats_beside(rt, alloc, lent, book_of(alloc, script)?, script, entries)
 }
 
-/// The book that was lent, where the seats' lists agree with its history.
+/// Returns the borrowed recorded heap, if the seats' lists agree with its history.
 fn taken_back(lent: Lent) -> Option<Book> {
     let Lent { book, seats } = lent;
     match settle(book, seats) {
@@ -235,7 +236,7 @@ fn taken_back(lent: Lent) -> Option<Book> {
     }
 }
 
-/// A book that is lent to its seats.
+/// Returns a recorded heap that its seats borrow.
 fn lend(table: Table) -> Lent {
     let Table {
         shared,
@@ -248,7 +249,7 @@ fn lend(table: Table) -> Lent {
     }
 }
 
-/// A script's steps at a table, which copies pages to a depth.
+/// Does a script's steps at a table, which copies pages to a depth.
 fn by_table<R: Abort + Threads + Wait + Sync>(
     rt: &R,
     alloc: Global,

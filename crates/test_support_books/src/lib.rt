@@ -1,5 +1,5 @@
-//! Books as tests hold them, of one thread or shared with all their seats, and scripts of what is done on them.
-//! Their calls have no contracts, so that the proofs of tests are short.
+//! Recorded heaps for tests, of one thread or shared with all their seats, and scripts of their steps. Their calls
+//! have no contracts, so that the proofs of tests are short.
 #![tactic(auto)]
 
 mod book;

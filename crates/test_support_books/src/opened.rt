@@ -1,4 +1,4 @@
-//! Books of scripts.
+//! Recorded heaps of scripts.
 
 use crate::book::act;
 use cycle::Book;
@@ -15,12 +15,12 @@ pub const HEAD: &str =
 pub const ROOMY: &str =
     "heap words 16 frames 4 pages 8 threads 2 workers 1 registers 4 globals 1\nlayout 1 1\n";
 
-/// An object with a datum, which both threads and the global name, and a whole mark: its page is closed then.
+/// An object with a datum, to which both threads and the global refer, and a complete mark: its page is closed then.
 pub const MARKED: &str =
     "t0 take 16\nt0 new r0 0\nt0 set r0 0 5\nt0 storeg 0 r0\nt0 give\nt1 loadg r0 0\nt1 trap\nt1 finish\n\
     w0 mark\nt0 cross\nt1 cross\nw0 scang 0\nw0 pick 1.0\nw0 scan\nw0 scan\nw0 endmark\n";
 
-/// A page of five objects, each of which names the one before, and the first of all the marked one.
+/// A page of five objects, each of which refers to the one before, and the first of all to the marked one.
 pub const LINKED: &str =
     "t1 take 16\ntimes 5\nt1 new r1 0\nt1 store r1 0 r0\nt1 mov r0 r1\nend\nt1 give\nw0 mark\nt0 cross\n\
     t1 cross\nw0 scang 0\nw0 pick 1.0\nw0 scan\nw0 scan\nw0 pick 2.12\nw0 scan\nw0 scan\nw0 pick 2.9\n\
@@ -41,7 +41,7 @@ pub const FULL: &str =
     w0 pick 1.9\nw0 scan\nw0 scan\nw0 pick 1.6\nw0 scan\nw0 scan\nw0 pick 1.3\nw0 scan\nw0 scan\nw0 pick 1.0\n\
     w0 scan\nw0 scan\nw0 endmark\n";
 
-/// A script of several parts.
+/// Returns a script of several parts.
 pub fn script_of(alloc: Global, parts: &[&str]) -> Result<Script, ParseFault> {
     let mut text = String::new(alloc);
     for part in parts {
@@ -50,7 +50,7 @@ pub fn script_of(alloc: Global, parts: &[&str]) -> Result<Script, ParseFault> {
     parse(alloc, text.as_bytes())
 }
 
-/// A new book of a script's configuration.
+/// Returns a new recorded heap of a script's configuration.
 pub fn book_of(alloc: Global, script: &Script) -> Result<Book, Fail> {
     let config = script.config().copy(alloc)?;
     match Book::new(alloc, config) {
@@ -59,7 +59,7 @@ pub fn book_of(alloc: Global, script: &Script) -> Result<Book, Fail> {
     }
 }
 
-/// Does the steps of a script's commands on a book, whatever they are answered, but for want of memory.
+/// Does the steps of a script's commands on a recorded heap, with any replies. Fails only if out of memory.
 pub fn act_all(alloc: Global, book: &mut Book, script: &Script) -> Result<(), AllocError> {
     for command in script.commands() {
         let step = command.order.step(alloc)?;

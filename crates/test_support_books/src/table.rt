@@ -1,4 +1,4 @@
-//! Shared books with all their seats.
+//! Shared recorded heaps with all their seats.
 
 use crate::opened::book_of;
 use actor_entries::is_same;
@@ -12,7 +12,7 @@ use std::sync::Wait;
 use std::test::Fail;
 use std::thread::Threads;
 
-/// A shared book with its seats, and the depth to which it halves what it copies.
+/// A shared recorded heap with its seats, and the depth to which it halves the entries that it copies.
 #[derive(Drop)]
 pub struct Table {
     pub shared: Shared,
@@ -20,7 +20,7 @@ pub struct Table {
     pub depth: u32,
 }
 
-/// A table of a book.
+/// Returns a table of a recorded heap.
 fn open(alloc: Global, book: Book, depth: u32) -> Result<Table, AllocError> {
     let (shared, seats) = Shared::open(alloc, book).ok().ok_or(AllocError)?;
     Ok(Table {
@@ -30,20 +30,20 @@ fn open(alloc: Global, book: Book, depth: u32) -> Result<Table, AllocError> {
     })
 }
 
-/// A table of a new book for a script's steps.
+/// Returns a table of a new recorded heap for a script's steps.
 pub fn table_of(alloc: Global, script: &Script, depth: u32) -> Result<Table, Fail> {
     let book = book_of(alloc, script)?;
     let table = open(alloc, book, depth)?;
     Ok(table)
 }
 
-/// An actor's seat.
+/// Returns an actor's seat.
 pub fn seat_of(seats: &mut [Seat], actor: Actor) -> Option<&mut Seat> {
     let place = seats.iter().position(|seat| is_same(seat.actor(), actor))?;
     seats.get_mut(place)
 }
 
-/// A command's step by a seat.
+/// Does a command's step by a seat.
 fn ask_seat<R: Threads + Wait + Sync>(
     rt: &R,
     alloc: Global,
@@ -61,7 +61,7 @@ fn ask_seat<R: Threads + Wait + Sync>(
     }
 }
 
-/// A command's step at a table.
+/// Does a command's step at a table.
 pub fn ask<R: Threads + Wait + Sync>(
     rt: &R,
     alloc: Global,
@@ -77,18 +77,18 @@ pub fn ask<R: Threads + Wait + Sync>(
     }
 }
 
-/// The image of a heap, as a text.
+/// Returns the image of a heap, as a text.
 pub fn image_of(alloc: Global, heap: &Heap) -> Result<String, AllocError> {
     let image = heap_images::image_of(alloc, heap)?;
     text_of(alloc, &image)
 }
 
-/// The image of a shared heap, as a text.
+/// Returns the image of a shared heap, as a text.
 pub fn shared_image(rt: &impl Wait, alloc: Global, shared: &Shared) -> Result<String, AllocError> {
     shared.look(rt, |heap: &Heap| image_of(alloc, heap))
 }
 
-/// The entry of a number, as a text.
+/// Returns the entry of a number, as a text.
 pub fn entry_text(alloc: Global, history: &History, index: usize) -> Result<String, AllocError> {
     match history.get(index) {
         Some(found) => text_of(alloc, found.entry()),
@@ -96,12 +96,13 @@ pub fn entry_text(alloc: Global, history: &History, index: usize) -> Result<Stri
     }
 }
 
-/// A table that can be lent. A test hands its own on as one: to hold a `Table` over calls is dear to prove.
+/// A table that can be borrowed. Tests pass theirs as one, since a proof with a `Table` that lives over several calls
+/// takes long.
 pub trait HeldTable: Sized {
-    /// The table.
+    /// Borrows the table.
     fn table(&mut self) -> &mut Table;
 
-    /// Its book, where its seats agree with it.
+    /// Returns its recorded heap, if its seats agree with it.
     fn settled(self) -> Option<Book>;
 }
 
@@ -115,7 +116,7 @@ impl HeldTable for Table {
     }
 }
 
-/// A table's book, where its seats agree with it.
+/// Returns a table's recorded heap, if its seats agree with it.
 fn settled(table: Table) -> Option<Book> {
     let Table {
         shared,
@@ -128,7 +129,7 @@ fn settled(table: Table) -> Option<Book> {
     }
 }
 
-/// All of a value, as a text.
+/// Returns a value in full, as a text.
 pub fn text_of<T: Debug>(alloc: Global, value: &T) -> Result<String, AllocError> {
     format!(in alloc; "{value:?}")
 }

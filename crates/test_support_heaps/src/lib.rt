@@ -1,4 +1,4 @@
-//! Small heaps, for tests of what a program holds.
+//! Small heaps, for tests of a program's heap.
 #![tactic(auto)]
 
 use heap::Config;

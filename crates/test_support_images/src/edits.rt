@@ -1,5 +1,4 @@
-//! What is changed in an image. Pages count from 1, all else from 0. Where the image has no such place,
-//! nothing is changed.
+//! Edits of an image. Pages count from 1, all else from 0. If the image has no such place, nothing is changed.
 
 use markbits::Row;
 use model::{Forwarding, PageState};
@@ -7,14 +6,14 @@ use refword::Addr;
 use std::alloc::{AllocError, Global};
 use verify::Image;
 
-/// One of the free frames is this one.
+/// Replaces one of the free frames.
 pub fn set_free(image: &mut Image, index: usize, frame: u32) {
     if index < image.free.len() {
         image.free[index] = frame;
     }
 }
 
-/// A frame that has no words gets 16. Where memory is refused it stays.
+/// Gives 16 words to a frame that has none. If out of memory it stays as it is.
 fn fill_frame(image: &mut Image, frame: usize) {
     let alloc = *image.pages.allocator();
     if frame < image.frames.len() && image.frames[frame].words.is_empty() {
@@ -24,12 +23,12 @@ fn fill_frame(image: &mut Image, frame: usize) {
     }
 }
 
-/// The words of a page.
+/// Returns the words of a page, all 0.
 fn zeros(alloc: Global) -> Result<Vec<u64>, AllocError> {
     vec![in alloc; 0; 16]
 }
 
-/// A page is used so, and has this frame, which has words then.
+/// Sets a page's state and frame, which has words then.
 pub fn set_page(image: &mut Image, number: usize, state: PageState, frame: Option<u32>) {
     if number > 0 && number <= image.pages.len() {
         let page = &mut image.pages[number - 1];
@@ -41,14 +40,14 @@ pub fn set_page(image: &mut Image, number: usize, state: PageState, frame: Optio
     }
 }
 
-/// An object starts at an offset of a page, or doesn't.
+/// Sets or clears the start bit at an offset of a page.
 pub fn set_start(image: &mut Image, number: usize, offset: usize, starts: bool) {
     if number > 0 && number <= image.pages.len() {
         image.pages[number - 1].starts.put(offset, starts);
     }
 }
 
-/// The first bits of a row.
+/// Returns the first bits of a bitmap.
 fn first_bits(alloc: Global, row: &Row, length: u32) -> Result<Row, AllocError> {
     let mut first = Row::new(alloc, length)?;
     for offset in 0..length as usize {
@@ -57,7 +56,7 @@ fn first_bits(alloc: Global, row: &Row, length: u32) -> Result<Row, AllocError> 
     Ok(first)
 }
 
-/// The row that says where objects of a page start is so long. Where memory is refused it stays.
+/// Shortens the start bitmap of a page. If out of memory it stays as it is.
 pub fn shorten_starts(image: &mut Image, number: usize, length: u32) {
     let alloc = *image.pages.allocator();
     if number > 0 && number <= image.pages.len() {
@@ -68,7 +67,7 @@ pub fn shorten_starts(image: &mut Image, number: usize, length: u32) {
     }
 }
 
-/// A frame has a word at an offset.
+/// Sets the word of a frame at an offset.
 pub fn set_word(image: &mut Image, frame: usize, offset: usize, bits: u64) {
     if frame < image.frames.len() {
         let words = &mut image.frames[frame].words;
@@ -78,7 +77,7 @@ pub fn set_word(image: &mut Image, frame: usize, offset: usize, bits: u64) {
     }
 }
 
-/// A register has a value.
+/// Sets the value of a register.
 pub fn set_register(image: &mut Image, thread: usize, register: usize, value: u64) {
     if thread < image.registers.len() {
         let words = &mut image.registers[thread].words;
@@ -88,28 +87,28 @@ pub fn set_register(image: &mut Image, thread: usize, register: usize, value: u6
     }
 }
 
-/// A thread's load has this word so far.
+/// Sets the current reference of a thread's load.
 pub fn set_load(image: &mut Image, thread: usize, value: Option<u64>) {
     if thread < image.loads.len() {
         image.loads[thread] = value;
     }
 }
 
-/// The global has a value.
+/// Sets the value of the global.
 pub fn set_global(image: &mut Image, value: u64) {
     if !image.globals.is_empty() {
         image.globals[0] = value;
     }
 }
 
-/// A page has this frame, or none.
+/// Sets a page's frame, or none.
 pub fn set_frame(image: &mut Image, page: usize, frame: Option<u32>) {
     if page > 0 && page <= image.pages.len() {
         image.pages[page - 1].frame = frame;
     }
 }
 
-/// A page's side array has this as its first entry.
+/// Sets the first entry of a page's forwarding table.
 pub fn set_entry(image: &mut Image, page: usize, entry: Forwarding) {
     if page > 0 && page <= image.pages.len() {
         let side = &mut image.pages[page - 1].side;
@@ -119,14 +118,13 @@ pub fn set_entry(image: &mut Image, page: usize, entry: Forwarding) {
     }
 }
 
-/// The word of a frame at an offset.
+/// Returns the word of a frame at an offset.
 pub fn word(image: &Image, frame: usize, offset: usize) -> Option<u64> {
     let memory = image.frames.get(frame)?;
     memory.words.get(offset).copied()
 }
 
-/// What a side array says of the object at offset 0: the address that it goes to, and whether it is
-/// copied.
+/// Returns an entry for the object at offset 0, by its new address and whether it is copied.
 pub fn entry(to: u64, copied: bool) -> Option<Forwarding> {
     let to = Addr::new(to)?;
     Some(Forwarding {

@@ -1,5 +1,5 @@
-//! Images of heaps for tests: made up, changed, and judged by a slow verdict that was written from the
-//! definition. The calls have no contracts, so that the proofs of tests are short.
+//! Images of heaps for tests: made, edited, and judged by a slow verifier that was written from the definition. The
+//! calls have no contracts, so that the proofs of tests are short.
 #![tactic(auto)]
 
 mod edits;

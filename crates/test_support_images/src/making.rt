@@ -1,4 +1,4 @@
-//! Images that are made up.
+//! Making images.
 
 use crate::edits::{set_start, set_word};
 use layout::{Header, Layout};
@@ -18,7 +18,7 @@ fn page(alloc: Global, state: PageState, frame: Option<u32>) -> Result<PageImage
     })
 }
 
-/// So many lists of so many zeros.
+/// Returns `lists` lists of `count` zeros.
 fn zeros(alloc: Global, lists: usize, count: usize) -> Result<Vec<Words>, AllocError> {
     let mut all = Vec::with_capacity(alloc, lists)?;
     for _ in 0..lists {
@@ -38,7 +38,7 @@ fn layouts(alloc: Global) -> Result<Vec<Layout>, AllocError> {
     Ok(layouts)
 }
 
-/// So many pages, of which the first owns frame 0 and the others are unused.
+/// Returns `count` pages, of which the first owns frame 0 and the others are unused.
 fn pages_of(alloc: Global, count: usize) -> Result<Vec<PageImage>, AllocError> {
     let mut pages = Vec::with_capacity(alloc, count)?;
     pages.push(page(alloc, PageState::Open, Some(0))?)?;
@@ -48,7 +48,7 @@ fn pages_of(alloc: Global, count: usize) -> Result<Vec<PageImage>, AllocError> {
     Ok(pages)
 }
 
-/// An image without memory, roots and layouts, of three frames to be.
+/// Returns an image without memory, roots and layouts, with three configured frames.
 fn blank(alloc: Global, pages: Vec<PageImage>) -> Image {
     Image {
         words: 16,
@@ -74,7 +74,7 @@ fn frames(alloc: Global) -> Result<Vec<Words>, AllocError> {
     Ok(frames)
 }
 
-/// Such an image gets three frames, of which 1 and 2 are free, two threads with two registers, a global, and
+/// Gives such an image three frames, of which 1 and 2 are free, two threads with two registers, a global, and
 /// layouts.
 fn fill(alloc: Global, image: &mut Image) -> Result<(), AllocError> {
     image.free = vec![in alloc; 1, 2]?;
@@ -86,15 +86,15 @@ fn fill(alloc: Global, image: &mut Image) -> Result<(), AllocError> {
     Ok(())
 }
 
-/// Three frames, of which 1 and 2 are free, two threads with two registers, a global, and pages of
-/// which the first owns frame 0 and the others are unused. No object is there.
+/// Returns an image of three frames, of which 1 and 2 are free, two threads with two registers, a global, and pages
+/// of which the first owns frame 0 and the others are unused. It has no objects.
 pub fn bare(alloc: Global, pages: usize) -> Result<Image, AllocError> {
     let mut image = blank(alloc, pages_of(alloc, pages)?);
     fill(alloc, &mut image)?;
     Ok(image)
 }
 
-/// A page, by its number and its frame, has an object at an offset.
+/// Adds an object at an offset of a page, by the page's number and frame.
 pub fn put(image: &mut Image, page: (usize, usize), offset: usize, birth: u32, layout: u8) {
     let (number, frame) = page;
     set_start(image, number, offset, true);
@@ -102,7 +102,7 @@ pub fn put(image: &mut Image, page: (usize, usize), offset: usize, birth: u32, l
     set_word(image, frame, offset, Header { birth, layout }.write());
 }
 
-/// A page's side array has one more entry.
+/// Adds an entry to a page's forwarding table.
 pub fn add_entry(
     image: &mut Image,
     number: usize,

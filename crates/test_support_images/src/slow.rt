@@ -1,11 +1,11 @@
-//! Verdicts on images by what soundness says: no table, each pair of objects, and paths until no
-//! more are found.
+//! Verdicts on images by the definition of soundness: without tables, comparing each pair of objects, and following
+//! paths until no more are found.
 
 use model::PageState;
 use std::alloc::{AllocError, Global};
 use verify::{Fault, Image, PageImage, Root, Verdict};
 
-/// The page of an address, and its offset there.
+/// Returns the page of an address, and its offset there.
 fn page_of(image: &Image, address: u64) -> Option<(&PageImage, usize)> {
     let words = u64::from(image.words);
     let index = address.checked_div(words)?.checked_sub(1)?;
@@ -19,7 +19,7 @@ fn word_at(image: &Image, address: u64) -> Option<u64> {
     frame.words.get(offset).copied()
 }
 
-/// Where a side array says that the object of an offset was copied to.
+/// Returns the address to which the object of an offset was copied, by the forwarding table.
 fn copy_of(page: &PageImage, offset: usize) -> Option<u64> {
     for entry in &page.side {
         if entry.offset as usize == offset {
@@ -33,7 +33,7 @@ fn copy_of(page: &PageImage, offset: usize) -> Option<u64> {
     None
 }
 
-/// The birth of the object that starts at an address, and how many references it has.
+/// Returns the birth of the object that starts at an address, and how many references it has.
 fn object_at(image: &Image, address: u64) -> Option<(u64, u64)> {
     let (page, offset) = page_of(image, address)?;
     let bits = word_at(image, address)?;
@@ -50,7 +50,7 @@ fn object_at(image: &Image, address: u64) -> Option<(u64, u64)> {
     ))
 }
 
-/// What a value leads to; nothing, where it isn't good.
+/// Returns what a value leads to; `None` if it isn't good.
 fn leads(image: &Image, value: u64) -> Option<Option<u64>> {
     if value == 0 {
         return Some(None);
@@ -86,7 +86,7 @@ fn field(image: &Image, address: u64, index: u64) -> Option<u64> {
     }
 }
 
-/// How often a frame is owned or free.
+/// Returns how often a frame is owned or free.
 fn uses(image: &Image, frame: u32) -> usize {
     let owners = image
         .pages
@@ -101,14 +101,14 @@ fn has_its_frame(page: &PageImage) -> bool {
     page.frame.is_none() == matches!(page.state, PageState::Unused | PageState::Gone)
 }
 
-/// Whether no frame from a number on is owned or free.
+/// Returns whether no frame from a number on is owned or free.
 fn none_from(image: &Image, count: u32) -> bool {
     let owned = image.pages.iter().all(|page| page.frame.unwrap_or(0) < count
         || page.frame.is_none());
     owned && image.free.iter().all(|free| *free < count)
 }
 
-/// Whether a frame, if it is there, has so many words.
+/// Returns whether a frame, if it exists, has this number of words.
 fn has_words(image: &Image, frame: u32, words: u32) -> bool {
     match image.frames.get(frame as usize) {
         None => true,
@@ -116,7 +116,7 @@ fn has_words(image: &Image, frame: u32, words: u32) -> bool {
     }
 }
 
-/// Whether the frame of a page, if it has one, has the words of a page.
+/// Returns whether the frame of a page, if it has one, has the words of a page.
 fn is_filled(image: &Image, page: &PageImage) -> bool {
     match page.frame {
         None => true,
@@ -136,7 +136,7 @@ fn has_frames(image: &Image) -> bool {
     sized && filled && free && framed && there && once && none_from(image, image.frame_count)
 }
 
-/// The first register of a thread whose value isn't good.
+/// Returns the first register of a thread whose value isn't good.
 fn bad_register(image: &Image, thread: usize) -> Option<Root> {
     let words = &image.registers.get(thread)?.words;
     for (register, value) in words.iter().enumerate() {
@@ -165,7 +165,7 @@ fn bad_global(image: &Image) -> Option<Root> {
     None
 }
 
-/// The first root whose value isn't good.
+/// Returns the first root whose value isn't good.
 fn bad_root(image: &Image) -> Option<Root> {
     for thread in 0..image.registers.len() {
         if let Some(root) = bad_register(image, thread) {
@@ -178,10 +178,10 @@ fn bad_root(image: &Image) -> Option<Root> {
     bad_global(image)
 }
 
-/// The addresses that are reached, as they are found.
+/// The addresses that are reached, in the order in which they are found.
 type Reached = Vec<u64>;
 
-/// What a value leads to is reached.
+/// Adds what a value leads to.
 fn reach(image: &Image, reached: &mut Reached, value: u64) -> Result<(), AllocError> {
     if let Some(Some(to)) = leads(image, value) {
         if !reached.contains(&to) {
@@ -191,7 +191,7 @@ fn reach(image: &Image, reached: &mut Reached, value: u64) -> Result<(), AllocEr
     Ok(())
 }
 
-/// What the roots lead to is reached.
+/// Adds what the roots lead to.
 fn reach_roots(image: &Image, reached: &mut Reached) -> Result<(), AllocError> {
     for thread in &image.registers {
         for value in &thread.words {
@@ -207,7 +207,7 @@ fn reach_roots(image: &Image, reached: &mut Reached) -> Result<(), AllocError> {
     Ok(())
 }
 
-/// What the fields of the object at an address lead to is reached.
+/// Adds what the fields of the object at an address lead to.
 fn reach_fields(image: &Image, reached: &mut Reached, address: u64) -> Result<(), AllocError> {
     for index in 0..u64::from(u8::MAX) {
         if let Some(value) = field(image, address, index) {
@@ -217,7 +217,7 @@ fn reach_fields(image: &Image, reached: &mut Reached, address: u64) -> Result<()
     Ok(())
 }
 
-/// All addresses of objects are below this one.
+/// Returns a number that is above all addresses of objects.
 fn space(image: &Image) -> u64 {
     let pages = image.pages.len() as u64;
     pages
@@ -225,7 +225,7 @@ fn space(image: &Image) -> u64 {
         .saturating_mul(u64::from(image.words))
 }
 
-/// All reached addresses: the fields of all are followed as often as there are addresses.
+/// Returns all reached addresses: the fields of all are followed as often as there are addresses.
 fn all_reached(alloc: Global, image: &Image) -> Result<Reached, AllocError> {
     let mut reached = Vec::new(alloc);
     reach_roots(image, &mut reached)?;
@@ -243,7 +243,7 @@ fn all_reached(alloc: Global, image: &Image) -> Result<Reached, AllocError> {
     Ok(reached)
 }
 
-/// The first field of an object whose value isn't good.
+/// Returns the first field of an object whose value isn't good.
 fn bad_field(image: &Image, address: u64) -> Option<u32> {
     for index in 0..u32::from(u8::MAX) {
         if let Some(value) = field(image, address, u64::from(index)) {
@@ -255,7 +255,7 @@ fn bad_field(image: &Image, address: u64) -> Option<u32> {
     None
 }
 
-/// The first field of all reached objects whose value isn't good.
+/// Returns the first field of all reached objects whose value isn't good.
 fn first_bad_field(image: &Image, reached: &Reached) -> Option<Fault> {
     for address in 0..space(image) {
         if reached.contains(&address) {
@@ -267,7 +267,7 @@ fn first_bad_field(image: &Image, reached: &Reached) -> Option<Fault> {
     None
 }
 
-/// The birth that a reached object and another object share, if both are to be told apart.
+/// Returns the birth that a reached object shares with another object that is reached too or wasn't copied.
 fn shared(image: &Image, reached: &Reached, one: u64, other: u64) -> Option<u64> {
     let (birth, _) = object_at(image, one)?;
     let (same, _) = object_at(image, other)?;
@@ -280,7 +280,7 @@ fn shared(image: &Image, reached: &Reached, one: u64, other: u64) -> Option<u64>
     }
 }
 
-/// The least birth that two objects share, of which one is reached.
+/// Returns the least birth that two objects share, of which one is reached.
 fn twins(image: &Image, reached: &Reached) -> Option<u64> {
     let mut least = None;
     for one in reached {
@@ -294,7 +294,7 @@ fn twins(image: &Image, reached: &Reached) -> Option<u64> {
     least
 }
 
-/// The verdict on a small image.
+/// Returns the verdict on a small image.
 pub fn slow_verdict(alloc: Global, image: &Image) -> Result<Verdict, AllocError> {
     if !has_frames(image) {
         return Ok(Verdict::Faulty(Fault::Frames));

@@ -1,4 +1,4 @@
-//! Numbers without order, the same for the same seed.
+//! Pseudorandom numbers, the same for the same seed.
 
 ghost use Rattle.std.specs.Prelude.{◌<◌};
 
@@ -11,12 +11,12 @@ pub struct Dice {
 }
 
 impl Dice {
-    /// The sequence of a seed.
+    /// Returns the sequence of a seed.
     pub fn new(seed: u64) -> Dice {
         Dice { number: seed }
     }
 
-    /// The next number, below a limit: what is left of the upper 31 bits of the sequence's next.
+    /// Returns the next number, below a limit: the upper 31 bits of the sequence's next number, modulo the limit.
     pub fn roll(&mut self, limit: u64) -> u64
         requires { 0 < limit }
         ensures { result < limit }
@@ -25,7 +25,7 @@ impl Dice {
         (self.number >> 33) % limit
     }
 
-    /// Whether it is one of so many.
+    /// Returns true once in `sides` times on average.
     pub fn hits(&mut self, sides: u64) -> bool
         requires { 0 < sides }
     {

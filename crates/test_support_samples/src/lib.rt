@@ -1,4 +1,4 @@
-//! What several tests begin with: configurations, their numbers, and numbers without order.
+//! Samples that several tests share: configurations, their numbers, and pseudorandom numbers.
 #![tactic(auto)]
 
 mod dice;
@@ -49,7 +49,7 @@ pub fn shared_by_two(alloc: Global) -> Result<Config, AllocError> {
     })
 }
 
-/// The numbers of a configuration that are no counts of births or entries.
+/// The numbers of a configuration except its limits of births and entries.
 pub fn sizes(config: &Config) -> [u32; 7] {
     [
         config.words,
@@ -62,7 +62,7 @@ pub fn sizes(config: &Config) -> [u32; 7] {
     ]
 }
 
-/// The next number of a sequence without order.
+/// Returns the next number of a pseudorandom sequence.
 pub fn scatter(number: u64) -> u64 {
     number
         .wrapping_mul(6_364_136_223_846_793_005)

@@ -22,7 +22,7 @@ pub const TABLE: u32 = 1;
 /// How many references a table has.
 pub const PLACES: u32 = 16;
 
-/// Buffers of a page of 64 words; a thread collects only if few frames are free. With none there is no room to copy.
+/// Buffers of a page of 64 words; a thread collects only if few frames are free. With none there is no space to copy.
 pub const POLICY: Policy = Policy {
     words: 64,
     free: 4,
@@ -36,10 +36,10 @@ const EARLY: Policy = Policy {
     percent: 75,
 };
 
-/// How many objects the collector scans in a part at most.
+/// The greatest number of objects that the collector scans in a part.
 const BUDGET: u32 = 16;
 
-/// A heap of N threads, in pages of 64 words.
+/// Returns a heap of `threads` threads, in pages of 64 words.
 pub fn heap_of(alloc: Global, threads: u32, frames: u32) -> Result<ManagedHeap, Fail> {
     let cell = Layout { refs: 1, nums: 1 };
     let table = Layout { refs: 16, nums: 0 };
@@ -50,7 +50,7 @@ pub fn heap_of(alloc: Global, threads: u32, frames: u32) -> Result<ManagedHeap, 
     Ok(ManagedHeap::new(alloc, config)?)
 }
 
-/// A heap is shared.
+/// Shares a heap.
 pub fn opened(alloc: Global, heap: ManagedHeap, rests: u32) -> Result<(SharedHeap, Seats), Fail> {
     match SharedHeap::open(alloc, heap, rests) {
         Ok(opened) => Ok(opened),
@@ -58,7 +58,7 @@ pub fn opened(alloc: Global, heap: ManagedHeap, rests: u32) -> Result<(SharedHea
     }
 }
 
-/// A heap of N threads that is shared, with its seats.
+/// Returns a shared heap of `threads` threads, with its seats.
 pub fn shared_heap(
     alloc: Global,
     threads: u32,
@@ -68,7 +68,7 @@ pub fn shared_heap(
     opened(alloc, heap_of(alloc, threads, frames)?, rests)
 }
 
-/// Whether a heap that was shared is sound.
+/// Returns whether a heap that was shared is sound.
 pub fn verifies(alloc: Global, shared: SharedHeap) -> Result<bool, Fail> {
     let heap = shared.into_heap();
     Ok(verify_held(alloc, &heap)? == Verdict::Sound)
@@ -76,7 +76,7 @@ pub fn verifies(alloc: Global, shared: SharedHeap) -> Result<bool, Fail> {
 
 /// The work of one thread.
 pub trait Job: Sync {
-    /// Works at the heap by a seat, and returns what was found.
+    /// Works on the heap by a seat, and returns what was found.
     fn work<R: Wait>(&self, rt: &R, shared: &SharedHeap, seat: ThreadSeat) -> Result<u64, Refusal>;
 }
 

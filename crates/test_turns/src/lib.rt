@@ -1,4 +1,4 @@
-//! Tests of turns at a heap that threads share: who has it when, and collections between the turns.
+//! Tests of turns on a heap that threads share: which thread has it when, and collections between the turns.
 #![tactic(auto)]
 
 #[cfg(test)]

@@ -9,16 +9,16 @@ use std::sync::Wait;
 use std::test::Fail;
 use test_support_threads::team::{CELL, POLICY, shared_heap};
 
-/// How many objects a part scans at most.
+/// The greatest number of objects that a part scans.
 const BUDGET: u32 = 4;
 
-/// More parts than a collection of this heap takes.
+/// More parts than a collection of this heap has.
 const PARTS: u32 = 500;
 
-/// How many objects are made, of which each second one dies.
+/// How many objects are allocated; every second one becomes garbage.
 const OBJECTS: u64 = 40;
 
-/// Makes a list in register 0 of objects between which others die.
+/// Makes a list in register 0, with garbage objects between its objects.
 fn fill(alloc: Global, mutator: &mut impl MutatorCalls) -> Result<(), Refusal> {
     for value in 0..OBJECTS {
         mutator.make(alloc, POLICY, 1, CELL)?;
@@ -31,7 +31,7 @@ fn fill(alloc: Global, mutator: &mut impl MutatorCalls) -> Result<(), Refusal> {
     mutator.clear_register(2)
 }
 
-/// The sum of the list.
+/// Returns the sum of the list.
 fn sum(mutator: &mut impl MutatorCalls) -> Result<u64, Refusal> {
     let mut sum = 0u64;
     mutator.copy_register(1, 0)?;
@@ -42,7 +42,7 @@ fn sum(mutator: &mut impl MutatorCalls) -> Result<u64, Refusal> {
     Ok(sum)
 }
 
-/// The thread's list, in a portion of its own.
+/// Returns the sum of the thread's list, in a portion of its own.
 fn sum_by<R: Wait>(rt: &R, shared: &SharedHeap, seat: &mut ThreadSeat) -> Result<u64, Refusal> {
     let mut portion = shared.enter(rt, seat);
     sum(&mut *portion)

@@ -1,4 +1,4 @@
-//! Who has the heap: a thread that rests hands it on, and the collector takes its turns.
+//! Which thread has the heap: a thread that rests lets others have it, and the collector takes its turns.
 
 use crate::same::same;
 use model::Refusal;
@@ -13,10 +13,10 @@ use std::thread::Threads;
 use std::time::Clock;
 use test_support_threads::team::{CELL, Job, POLICY, all_work, shared_heap};
 
-/// A thread rests so often at most, in vain.
+/// The greatest number of rests of a thread that waits in vain.
 const RESTS: u32 = 20_000_000;
 
-/// The frames of the heap, of which the collector begins when 24 are free.
+/// The frames of the heap. The collector begins when 24 are free.
 const FRAMES: u32 = 64;
 
 const LOW: u32 = 20;
@@ -28,13 +28,13 @@ struct Meeting {
     begun: AtomicU64,
 }
 
-/// Makes the object of global 0.
+/// Allocates the object of global 0.
 fn make(alloc: Global, mutator: &mut impl MutatorCalls) -> Result<(), Refusal> {
     mutator.make(alloc, POLICY, 0, CELL)?;
     mutator.store_global(0, 0)
 }
 
-/// The number in the object of global 0.
+/// Returns the number in the object of global 0.
 fn number(mutator: &mut impl MutatorCalls) -> Result<u64, Refusal> {
     mutator.read_global(0, 0)?;
     mutator.datum(0, 0)
@@ -126,12 +126,12 @@ struct Spender {
     alloc: Global,
 }
 
-/// How many frames are free.
+/// Returns how many frames are free.
 fn free_frames(mutator: &Mutator) -> u32 {
     mutator.heap().heap().memory().free_frames()
 }
 
-/// Makes objects that nobody keeps, until few frames are free.
+/// Allocates garbage objects, until few frames are free.
 fn spend(alloc: Global, mutator: &mut Mutator) -> Result<(), Refusal> {
     for _ in 0..FRAMES * 64 {
         if free_frames(mutator) <= LOW {
@@ -153,7 +153,7 @@ fn spend_by<R: Wait>(
     spend(alloc, &mut *portion)
 }
 
-/// How many frames are free between two portions of other threads.
+/// Returns how many frames are free between two portions of other threads.
 fn free_by<R: Wait>(rt: &R, shared: &SharedHeap, seat: &mut ThreadSeat) -> u32 {
     let portion = shared.enter(rt, seat);
     free_frames(&*portion)
@@ -220,7 +220,7 @@ fn settle_by<R: Wait>(rt: &R, shared: &SharedHeap, seat: &mut ThreadSeat) -> Res
     portion.give_back()
 }
 
-/// How many frames are free after a thread has used up all but one, and rested.
+/// Returns how many frames are free after a thread has used up all but one, and rested.
 fn rested_by<R: Wait>(rt: &R, shared: &SharedHeap, seat: &mut ThreadSeat) -> Result<u32, Refusal> {
     let mut portion = shared.enter(rt, seat);
     waste(&mut *portion)?;

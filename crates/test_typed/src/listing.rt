@@ -11,7 +11,7 @@ use typed::{Datum, Field, HeapCalls, LayoutNumber, Register, Thread, TypedHeap};
 
 const ME: Thread = Thread(0);
 
-/// The list's head, a new node, and a node that is looked at.
+/// The list's head, a new node, and the current node.
 const ROOT: Register = Register(0);
 
 const NODE: Register = Register(1);
@@ -24,7 +24,7 @@ const NEXT: Field = Field(0);
 
 const KEY: Datum = Datum(0);
 
-/// Makes a node, by complete collections or during one in parts.
+/// Allocates a node, by complete collections or during one in parts.
 fn make(alloc: Global, heap: &mut impl HeapCalls, paced: bool, key: u64) -> Result<(), Refusal> {
     if paced {
         heap.make_paced(alloc, ME, NODE, NODES)?;
@@ -47,7 +47,7 @@ fn fill(alloc: Global, heap: &mut impl HeapCalls, paced: bool) -> Result<(), Ref
     Ok(())
 }
 
-/// The sum of the keys of the list.
+/// Returns the sum of the keys of the list.
 fn sum(heap: &mut impl HeapCalls) -> Result<u64, Refusal> {
     heap.copy_register(ME, HERE, ROOT)?;
     let mut total = 0u64;
@@ -77,7 +77,7 @@ fn new_heap(alloc: Global) -> Result<TypedHeap, Fail> {
     Ok(TypedHeap::new(alloc, Config::new(64, 8, layouts))?)
 }
 
-/// Complete collections are counted by why they began.
+/// Complete collections are counted by their causes.
 fn counts(rt: &impl Abort, alloc: Global, mut heap: impl HeapCalls + Drop) -> Result<(), Refusal> {
     keeps(rt, alloc, &mut heap, false)?;
     same(rt, heap.counters().by_calls, 1);

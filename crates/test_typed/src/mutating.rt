@@ -1,4 +1,4 @@
-//! The calls of a portion, with numbers of which no two are equal.
+//! The calls of a portion, with numbers that all differ.
 
 use crate::numbers::new_heap;
 use crate::same::same;
@@ -12,7 +12,7 @@ use std::test::Fail;
 use typed::{Datum, Field, GlobalNumber, LayoutNumber, Register};
 use typed_portions::PortionCalls;
 
-/// Registers 2 and 3 of five name objects, and register 4 is loaded.
+/// Registers 2 and 3 of five refer to objects, and register 4 is loaded.
 const FIRST: Register = Register(2);
 
 const SECOND: Register = Register(3);
@@ -36,7 +36,7 @@ const POLICY: Policy = Policy {
     percent: 75,
 };
 
-/// References are loaded from where they were stored.
+/// References are loaded from their places.
 fn references(rt: &impl Abort, mutator: &mut impl PortionCalls) -> Result<(), Refusal> {
     mutator.read(READ, SECOND, LAST)?;
     same(rt, mutator.same(READ, FIRST), Ok(true));
@@ -58,7 +58,7 @@ fn references(rt: &impl Abort, mutator: &mut impl PortionCalls) -> Result<(), Re
     Ok(())
 }
 
-/// Data words are read from where they were written.
+/// Data words are read from their places.
 fn words(rt: &impl Abort, mutator: &mut impl PortionCalls) -> Result<(), Refusal> {
     mutator.set_datum(FIRST, WORD, 7)?;
     same(rt, mutator.datum(FIRST, WORD), Ok(7));

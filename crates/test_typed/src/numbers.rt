@@ -1,4 +1,4 @@
-//! Each call with numbers of which no two are equal: a call that takes one for another fails or answers otherwise.
+//! Each call with numbers that all differ: a call that swaps two of them fails or has another result.
 
 use crate::same::same;
 use heap::Config;
@@ -13,7 +13,7 @@ use typed::{Datum, Field, GlobalNumber, HeapCalls, LayoutNumber, Register, Threa
 /// Thread 1 of two.
 const ME: Thread = Thread(1);
 
-/// Registers 2 and 3 of five name objects, and register 4 is loaded.
+/// Registers 2 and 3 of five refer to objects, and register 4 is loaded.
 const FIRST: Register = Register(2);
 
 const SECOND: Register = Register(3);
@@ -38,7 +38,7 @@ fn pair(alloc: Global, heap: &mut impl HeapCalls) -> Result<(), Refusal> {
     Ok(())
 }
 
-/// References are loaded from where they were stored.
+/// References are loaded from their places.
 fn references(rt: &impl Abort, heap: &mut impl HeapCalls) -> Result<(), Refusal> {
     heap.read(ME, READ, SECOND, LAST)?;
     same(rt, heap.same(ME, READ, FIRST), Ok(true));
@@ -56,7 +56,7 @@ fn references(rt: &impl Abort, heap: &mut impl HeapCalls) -> Result<(), Refusal>
     Ok(())
 }
 
-/// Data words are read from where they were written.
+/// Data words are read from their places.
 fn words(rt: &impl Abort, heap: &mut impl HeapCalls) -> Result<(), Refusal> {
     same(rt, heap.datum(ME, FIRST, WORD), Ok(7));
     heap.set_many(ME, SECOND, Datum(2), &[8, 9])?;
@@ -82,7 +82,7 @@ fn registers(rt: &impl Abort, heap: &mut impl HeapCalls) -> Result<(), Refusal> 
     Ok(())
 }
 
-/// A buffer is taken, an object made in it, and what is left returned.
+/// A buffer is taken, an object allocated in it, and the rest given back.
 fn buffers(rt: &impl Abort, alloc: Global, heap: &mut impl HeapCalls) -> Result<(), Refusal> {
     heap.give_back(ME)?;
     heap.take(ME, 10)?;

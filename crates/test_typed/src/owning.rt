@@ -46,7 +46,7 @@ fn policies_are_set(rt: HostRuntime) -> Result<(), Fail> {
     Ok(())
 }
 
-/// Parts go on from where the last one ended, until the collection has ended.
+/// Continues the parts of a collection until it has ended. Returns how many they are.
 fn end(alloc: Global, heap: &mut impl HeapCalls) -> Result<u32, Refusal> {
     for done in 0..100 {
         if heap.collect_some(alloc)? {
@@ -68,14 +68,14 @@ fn ends(rt: &impl Abort, alloc: Global, heap: &mut impl HeapCalls) -> Result<(),
     Ok(())
 }
 
-/// Nothing was counted yet, and the object that lives is found.
+/// Nothing was counted yet, and the live object is found.
 fn begins(rt: &impl Abort, alloc: Global, mut heap: impl HeapCalls + Drop) -> Result<(), Refusal> {
     same(rt, heap.counters().ended_in_parts, 0);
     same(rt, heap.collect(alloc)?.live, 1);
     Ok(())
 }
 
-/// The increment of a collection in parts is the heap's own, and a heap that is owned again begins with none.
+/// The increment of a collection in parts is the heap's own; a managed heap that gets an owner begins with a new one.
 #[test]
 fn an_increment_is_continued(rt: HostRuntime) -> Result<(), Fail> {
     let mut heap = new_heap(rt.alloc())?;

@@ -1,7 +1,6 @@
-//! Faults that are planted, each alone, into images of a book's heap: behind its first mark an object
-//! of three words stands at page 1, offset 0, in frame 0, and a register of each thread and the global
-//! name it; once it has moved it stands at page 2, offset 0, page 1 is released, and roots name it by
-//! its old place until the next mark.
+//! Single faults in images of a recorded heap. After its first mark an object of three words is at page 1, offset 0,
+//! in frame 0, and a register of each thread and the global refer to it. When it has moved it is at page 2, offset 0,
+//! page 1 is released, and roots refer to it by its old place until the next mark.
 
 use crate::stories::{Story, told};
 use model::PageState;
@@ -13,16 +12,16 @@ use test_support_images::{
 };
 use verify::{Fault, Image, Root, Verdict, verify_image};
 
-/// A word that names page 3, offset 0, where nothing was ever made.
+/// A reference to page 3, offset 0, where no object was ever allocated.
 const NOWHERE: u64 = 0x8000_0000_0000_0030;
 
 /// The address of page 2, offset 0.
 const PLACE: u64 = 32;
 
-/// The first root that names the object.
+/// The verdict for the first root that refers to the object.
 const FIRST: Verdict = Verdict::Faulty(Fault::Root(Root::Register(0, 0)));
 
-/// What is planted.
+/// The fault.
 #[derive(Clone, Copy, Debug)]
 enum Planted {
     Nothing,
@@ -32,25 +31,25 @@ enum Planted {
     FrameOfTwo,
     /// The free frames are 1 and 1 in place of 1 and 2.
     FrameTwiceFree,
-    /// No object starts where one stands.
+    /// The object's start bit is missing.
     LostStart,
-    /// The global is no word.
+    /// The global is no reference.
     GlobalNoWord,
-    /// The object's reference leads into an unused page.
+    /// The object's reference leads to an unused page.
     FieldToNowhere,
-    /// The object stands again behind itself.
+    /// The object is there twice, the second time after itself.
     Twin,
     /// The object that has moved isn't copied.
     Uncopied,
-    /// The object has moved to beside its copy.
+    /// The object has moved to a place next to its copy.
     BesideItsCopy,
     /// The page of the copy has no frame.
     CopyWithoutMemory,
-    /// A thread loads what names nothing.
+    /// A thread loads a reference to no object.
     LoadOfNowhere,
 }
 
-/// The object stands again behind itself.
+/// Copies the object to the place after it.
 fn repeat(image: &mut Image) {
     for offset in 0..3 {
         if let Some(word) = word(image, 0, offset) {
@@ -60,14 +59,14 @@ fn repeat(image: &mut Image) {
     set_start(image, 1, 3, true);
 }
 
-/// The object's entry says that it goes there, and whether it is copied.
+/// Changes where the object goes by its entry, and whether it is copied.
 fn change_entry(image: &mut Image, to: u64, copied: bool) {
     if let Some(entry) = entry(to, copied) {
         set_entry(image, 1, entry);
     }
 }
 
-/// A fault is planted.
+/// Makes a fault.
 fn plant(image: &mut Image, planted: Planted) {
     match planted {
         Planted::Nothing => {}
@@ -85,7 +84,7 @@ fn plant(image: &mut Image, planted: Planted) {
     }
 }
 
-/// The verdict on the image of a story's end into which a fault is planted.
+/// Returns the verdict on the image of a story's end after a fault was made.
 fn verdict_on(alloc: Global, story: Story, planted: Planted) -> Result<Verdict, Fail> {
     let mut image = told(alloc, story)?;
     plant(&mut image, planted);

@@ -1,5 +1,5 @@
-//! Ten thousand images of which one field is changed at random, beside the slow verdict: half of them
-//! are images of a heap.
+//! Ten thousand images of which one field is changed at random, compared with the slow verdict: half of them are
+//! images of a heap.
 
 use crate::random::{frame, judged, page_state, rooted, value};
 use crate::stories::{Story, told};
@@ -15,10 +15,10 @@ use test_support_images::{
 use test_support_samples::Dice;
 use verify::{Image, PageImage};
 
-/// How many fields there are, where the length of each list counts as a field of its own.
+/// How many fields there are; the length of each list counts as one.
 const FIELDS: usize = 20;
 
-/// The words of a page, or how many frames there are to be, are other numbers.
+/// Changes the words of a page, or the configured number of frames.
 fn change_size(image: &mut Image, dice: &mut Dice, field: usize) {
     let number = if dice.hits(2) {
         1 << dice.roll(32)
@@ -32,7 +32,7 @@ fn change_size(image: &mut Image, dice: &mut Dice, field: usize) {
     }
 }
 
-/// A list of the image ends earlier.
+/// Shortens a list of the image.
 fn shorten_list(image: &mut Image, dice: &mut Dice, field: usize) {
     let length = dice.roll(4) as usize;
     match field {
@@ -43,7 +43,7 @@ fn shorten_list(image: &mut Image, dice: &mut Dice, field: usize) {
     }
 }
 
-/// The page of a number from 0 is used so, or has this frame.
+/// Changes the state or the frame of a page, by its number from 0.
 fn change_page(image: &mut Image, dice: &mut Dice, field: usize) {
     let number = (dice.roll(4) as usize).saturating_add(1);
     let new_state = page_state(dice);
@@ -59,7 +59,7 @@ fn change_page(image: &mut Image, dice: &mut Dice, field: usize) {
     }
 }
 
-/// The row of a page, or its side array, is shorter, or the row longer.
+/// Shortens the start bitmap of a page or its forwarding table, or lengthens the bitmap.
 fn change_row(image: &mut Image, dice: &mut Dice, place: usize, field: usize) {
     let length = dice.roll(17);
     if field == 8 {
@@ -69,7 +69,7 @@ fn change_row(image: &mut Image, dice: &mut Dice, place: usize, field: usize) {
     }
 }
 
-/// One entry of a side array has another field.
+/// Changes a field of an entry of a forwarding table.
 fn change_entry(page: &mut PageImage, dice: &mut Dice, field: usize) {
     let place = dice.roll(5) as usize;
     if place >= page.side.len() {
@@ -95,7 +95,7 @@ fn change_entry(page: &mut PageImage, dice: &mut Dice, field: usize) {
     };
 }
 
-/// Something of a page changes that is its own.
+/// Changes a field of a page.
 fn change_in_page(image: &mut Image, dice: &mut Dice, field: usize) {
     let place = dice.roll(3) as usize;
     if place >= image.pages.len() {
@@ -108,7 +108,7 @@ fn change_in_page(image: &mut Image, dice: &mut Dice, field: usize) {
     }
 }
 
-/// A word of a frame, or a header, is any number, or another header.
+/// Changes a word of a frame, or a header, to any number or another header.
 fn change_word(image: &mut Image, dice: &mut Dice) {
     let frame = dice.roll(3) as usize;
     let offset = dice.roll(16) as usize;
@@ -124,7 +124,7 @@ fn change_word(image: &mut Image, dice: &mut Dice) {
     set_word(image, frame, offset, bits);
 }
 
-/// A root has another value.
+/// Changes the value of a root.
 fn change_root(image: &mut Image, dice: &mut Dice, field: usize) {
     let (thread, register) = (dice.roll(2) as usize, dice.roll(2) as usize);
     let bits = value(dice);
@@ -135,7 +135,7 @@ fn change_root(image: &mut Image, dice: &mut Dice, field: usize) {
     }
 }
 
-/// A layout has other numbers of references or data.
+/// Changes the numbers of references or data of a layout.
 fn change_layout(image: &mut Image, dice: &mut Dice, field: usize) {
     let place = dice.roll(3) as usize;
     if place >= image.layouts.len() {
@@ -154,7 +154,7 @@ fn change_layout(image: &mut Image, dice: &mut Dice, field: usize) {
     }
 }
 
-/// A field changes, by its number.
+/// Changes a field, by its number.
 fn change(image: &mut Image, dice: &mut Dice, field: usize) {
     match field {
         0 | 1 => change_size(image, dice, field),
@@ -172,7 +172,7 @@ fn change(image: &mut Image, dice: &mut Dice, field: usize) {
     }
 }
 
-/// An image in which nothing is wrong: one that is made up, or that of a book's heap.
+/// Returns a sound image: a made one, or that of a recorded heap.
 fn whole(alloc: Global, dice: &mut Dice) -> Result<Image, Fail> {
     match dice.roll(6) {
         0 => told(alloc, Story::Closed),
@@ -182,7 +182,7 @@ fn whole(alloc: Global, dice: &mut Dice) -> Result<Image, Fail> {
     }
 }
 
-/// The verdict on an image with this field changed is the slow one. Whether there is a fault.
+/// The verdict on an image with this field changed is the slow one. Returns whether it has a fault.
 fn judges(rt: &impl Abort, alloc: Global, dice: &mut Dice, field: usize) -> Result<bool, Fail> {
     let mut image = whole(alloc, dice)?;
     change(&mut image, dice, field);
@@ -190,7 +190,7 @@ fn judges(rt: &impl Abort, alloc: Global, dice: &mut Dice, field: usize) -> Resu
     Ok(kind > 0)
 }
 
-/// How many of five hundred images with this field changed have a fault.
+/// Returns how many of five hundred images with this field changed have a fault.
 fn faults(rt: &impl Abort, alloc: Global, dice: &mut Dice, field: usize) -> Result<usize, Fail> {
     let mut faults = 0usize;
     for _ in 0..500 {

@@ -1,5 +1,4 @@
-//! Verdicts on images that are made up: the order of faults, twins, and side arrays. Faults that are planted
-//! alone are in `faults`.
+//! Verdicts on made images: the order of faults, twins, and forwarding tables. Single faults are in `faults`.
 
 use crate::same::same;
 use model::PageState;
@@ -11,13 +10,13 @@ use test_support_images::{
 };
 use verify::{Fault, Image, Root, Verdict, verify_image};
 
-/// The address of the only object of `sample`, and a word that names it.
+/// The address of the only object of `sample`, and a reference to it.
 const FIRST: u64 = 16;
 
 const NAMED: u64 = (1 << 63) + FIRST;
 
-/// An object at offset 0 of page 1 of 8, which refers to itself. A register of each thread and the
-/// global name it.
+/// An object at offset 0 of page 1 of 8, which refers to itself. A register of each thread and the global refer to
+/// it.
 fn sample(alloc: Global) -> Result<Image, AllocError> {
     let mut image = bare(alloc, 8)?;
     put(&mut image, (1, 0), 0, 0, 0);
@@ -28,7 +27,7 @@ fn sample(alloc: Global) -> Result<Image, AllocError> {
     Ok(image)
 }
 
-/// An image has this fault first.
+/// An image has this first fault.
 fn has_fault(rt: &impl Abort, alloc: Global, image: &Image, fault: Fault) {
     same(rt, verify_image(alloc, image), Ok(Verdict::Faulty(fault)));
 }
@@ -38,7 +37,7 @@ fn is_sound(rt: &impl Abort, alloc: Global, image: &Image) {
     same(rt, verify_image(alloc, image), Ok(Verdict::Sound));
 }
 
-/// Faults are planted from the last kind to the first, and each is told before those planted so far.
+/// Faults are made from the last kind to the first, and each is reported before the earlier ones.
 fn faults_in_turn(rt: &impl Abort, alloc: Global, image: &mut Image) {
     put(image, (1, 0), 3, 0, 0);
     has_fault(rt, alloc, image, Fault::Twins(0));
@@ -68,8 +67,8 @@ fn first_fault(rt: HostRuntime) -> Result<(), Fail> {
     Ok(())
 }
 
-/// The first object leads to one of two references behind it, and the objects' fields go wrong from
-/// the last to the first.
+/// The first object leads to one of two references after it, and the objects' fields go wrong from the last to the
+/// first.
 fn fields_in_turn(rt: &impl Abort, alloc: Global, image: &mut Image) {
     put(image, (1, 0), 3, 1, 1);
     set_word(image, 0, 1, 19);
@@ -90,7 +89,7 @@ fn first_field(rt: HostRuntime) -> Result<(), Fail> {
     Ok(())
 }
 
-/// Twins of the births 5 and 2, of which one each is reached.
+/// Twins of the births 5 and 2, one of each of which is reached.
 #[test]
 fn least_twins(rt: HostRuntime) -> Result<(), Fail> {
     let mut image = sample(rt.alloc())?;
@@ -108,7 +107,7 @@ fn least_twins(rt: HostRuntime) -> Result<(), Fail> {
 /// The header of birth 5 + 2^32 and of layout 2.
 const LATE: u64 = 5 + (2 << 32) + (1 << 40);
 
-/// Two objects are no twins where the upper bits of their births differ.
+/// Two objects are no twins if the upper bits of their births differ.
 #[test]
 fn late_twins(rt: HostRuntime) -> Result<(), Fail> {
     let mut image = sample(rt.alloc())?;
@@ -149,7 +148,7 @@ fn old_beside_its_copy(rt: HostRuntime) -> Result<(), Fail> {
     Ok(())
 }
 
-/// An entry that isn't copied doesn't lead anywhere, and leaves its object a twin.
+/// An uncopied entry doesn't lead anywhere, and leaves its object a twin.
 #[test]
 fn planned_and_not_copied(rt: HostRuntime) -> Result<(), Fail> {
     let mut image = sample(rt.alloc())?;
@@ -164,7 +163,7 @@ fn planned_and_not_copied(rt: HostRuntime) -> Result<(), Fail> {
     Ok(())
 }
 
-/// The side array of an unused page leads nowhere.
+/// The forwarding table of an unused page leads nowhere.
 #[test]
 fn side_of_an_unused_page(rt: HostRuntime) -> Result<(), Fail> {
     let mut image = sample(rt.alloc())?;

@@ -1,4 +1,4 @@
-//! The tests of the verifier: on heaps, and on images with faults, planted or at random, compared with a slow verdict.
+//! The tests of the verifier: on heaps, and on images with single or random faults, compared with a slow verdict.
 #![tactic(auto)]
 
 #[cfg(test)]

@@ -1,4 +1,4 @@
-//! A thousand images with faults at random, beside the slow verdict.
+//! A thousand images with random faults, compared with the slow verdict.
 
 use crate::same::same;
 use model::PageState;
@@ -12,7 +12,7 @@ use test_support_images::{
 use test_support_samples::Dice;
 use verify::{Fault, Image, Root, Verdict, verify_image};
 
-/// One of the ways in which a page may be used.
+/// Returns one of the states of a page.
 pub fn page_state(dice: &mut Dice) -> PageState {
     match dice.roll(5) {
         0 => PageState::Unused,
@@ -23,7 +23,7 @@ pub fn page_state(dice: &mut Dice) -> PageState {
     }
 }
 
-/// No frame, or one of the first five.
+/// Returns no frame, or one of the first five.
 pub fn frame(dice: &mut Dice) -> Option<u32> {
     if dice.hits(4) {
         None
@@ -32,7 +32,7 @@ pub fn frame(dice: &mut Dice) -> Option<u32> {
     }
 }
 
-/// Null, or a word that names a place of the first three pages, with either bit.
+/// Returns the bits of null, or of a reference to a place of the first three pages, with either NMT bit.
 fn word(dice: &mut Dice) -> u64 {
     let address = (dice.roll(3) + 1) * 16 + dice.roll(5) * 3;
     match dice.roll(3) {
@@ -42,7 +42,7 @@ fn word(dice: &mut Dice) -> u64 {
     }
 }
 
-/// Mostly a word, but any number may come.
+/// Returns mostly a reference, but any number may come.
 pub fn value(dice: &mut Dice) -> u64 {
     match dice.roll(8) {
         0 => 1 << dice.roll(64),
@@ -51,8 +51,8 @@ pub fn value(dice: &mut Dice) -> u64 {
     }
 }
 
-/// Objects of two pages at a place of each, of a birth of their own, and an old object of the first
-/// on the third page, which is copied.
+/// Adds objects to two pages at a place of each, of different births, and an old object of the first on the third
+/// page, which is copied.
 fn fill(image: &mut Image, dice: &mut Dice, place: u32) -> Result<(), AllocError> {
     let offset = place.saturating_mul(3) as usize;
     for (page, frame, birth) in [
@@ -68,8 +68,8 @@ fn fill(image: &mut Image, dice: &mut Dice, place: u32) -> Result<(), AllocError
     add_entry(image, 3, (offset as u32, to, true))
 }
 
-/// A sound image of four pages: two of objects, one that is protected and may be gone, and one that
-/// is unused.
+/// Returns a sound image of four pages: two with objects, one that is protected and may be gone, and one that is
+/// unused.
 fn sound(alloc: Global, dice: &mut Dice) -> Result<Image, AllocError> {
     let mut image = bare(alloc, 4)?;
     set_page(&mut image, 2, PageState::Closed, Some(1));
@@ -87,7 +87,7 @@ fn sound(alloc: Global, dice: &mut Dice) -> Result<Image, AllocError> {
     Ok(image)
 }
 
-/// The roots name what may be named.
+/// Sets the roots to what they can refer to.
 fn root(image: &mut Image, dice: &mut Dice) {
     for register in 0..2 {
         set_register(image, 0, register, word(dice));
@@ -96,7 +96,7 @@ fn root(image: &mut Image, dice: &mut Dice) {
     set_global(image, word(dice));
 }
 
-/// Something of the pages and frames changes.
+/// Changes something in the pages and frames.
 fn spoil_pages(image: &mut Image, dice: &mut Dice) {
     let state = page_state(dice);
     let number = dice.roll(5) as usize;
@@ -110,7 +110,7 @@ fn spoil_pages(image: &mut Image, dice: &mut Dice) {
     }
 }
 
-/// Some list is too short.
+/// Shortens a list.
 fn shorten(image: &mut Image, dice: &mut Dice) {
     let length = dice.roll(16) as usize;
     match dice.roll(4) {
@@ -127,7 +127,7 @@ fn shorten_frame(image: &mut Image, length: usize) {
     }
 }
 
-/// Something of the objects changes.
+/// Changes something in the objects.
 fn spoil_objects(image: &mut Image, dice: &mut Dice) {
     let place = dice.roll(5) as usize * 3;
     let frame = dice.roll(3) as usize;
@@ -145,7 +145,7 @@ fn spoil_objects(image: &mut Image, dice: &mut Dice) {
     }
 }
 
-/// Some root has another value.
+/// Changes the value of a root.
 fn spoil_roots(image: &mut Image, dice: &mut Dice) {
     match dice.roll(4) {
         0 => set_register(
@@ -159,7 +159,7 @@ fn spoil_roots(image: &mut Image, dice: &mut Dice) {
     }
 }
 
-/// Some side array has an entry more, or entries less.
+/// Adds an entry to a forwarding table, or removes some.
 fn spoil_sides(image: &mut Image, dice: &mut Dice) -> Result<(), AllocError> {
     if dice.hits(2) && image.pages.len() > 2 {
         image.pages[2].side.truncate(dice.roll(5) as usize);
@@ -169,7 +169,7 @@ fn spoil_sides(image: &mut Image, dice: &mut Dice) -> Result<(), AllocError> {
     add_entry(image, dice.roll(5) as usize, entry)
 }
 
-/// One thing changes.
+/// Changes one thing.
 fn spoil(image: &mut Image, dice: &mut Dice) -> Result<(), AllocError> {
     match dice.roll(12) {
         0 => spoil_pages(image, dice),
@@ -181,14 +181,14 @@ fn spoil(image: &mut Image, dice: &mut Dice) -> Result<(), AllocError> {
     Ok(())
 }
 
-/// A sound image with roots.
+/// Returns a sound image with roots.
 pub fn rooted(alloc: Global, dice: &mut Dice) -> Result<Image, AllocError> {
     let mut image = sound(alloc, dice)?;
     root(&mut image, dice);
     Ok(image)
 }
 
-/// An image in which up to five things are changed.
+/// Returns an image in which up to five things are changed.
 fn picture(alloc: Global, dice: &mut Dice) -> Result<Image, AllocError> {
     let mut image = rooted(alloc, dice)?;
     for _ in 0..dice.roll(6) {
@@ -197,7 +197,7 @@ fn picture(alloc: Global, dice: &mut Dice) -> Result<Image, AllocError> {
     Ok(image)
 }
 
-/// The kind of a verdict: 0 where there is no fault.
+/// Returns the kind of a verdict: 0 if there is no fault.
 fn kind(verdict: Verdict) -> usize {
     match verdict {
         Verdict::Sound => 0,
@@ -210,14 +210,14 @@ fn kind(verdict: Verdict) -> usize {
     }
 }
 
-/// Both verdicts on an image are the same; its kind.
+/// Both verdicts on an image are the same. Returns its kind.
 pub fn judged(rt: &impl Abort, alloc: Global, image: &Image) -> Result<usize, AllocError> {
     let wanted = slow_verdict(alloc, image)?;
     same(rt, verify_image(alloc, image), Ok(wanted));
     Ok(kind(wanted))
 }
 
-/// Each kind comes up often.
+/// Each kind occurs often.
 #[test]
 fn verdicts_agree(rt: HostRuntime) -> Result<(), Fail> {
     let mut dice = Dice::new(2005);

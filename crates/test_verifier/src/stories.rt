@@ -1,4 +1,4 @@
-//! What is done on the heaps into whose images faults are planted.
+//! The steps on the heaps whose images get faults.
 
 use cycle::{Actor, Book, PageList, Reply, Step};
 use heap::{Config, Refusal};
@@ -14,18 +14,18 @@ const SECOND: Actor = Actor::Thread(1);
 
 const WORKER: Actor = Actor::Worker(0);
 
-/// What a story asks of a book. It promises nothing, so that the proofs of stories are short.
+/// The calls of a story on a recorded heap. They have no contracts, so that the proofs of stories are short.
 trait Telling {
-    /// A step of an actor.
+    /// Does a step of an actor.
     fn act(&mut self, actor: Actor, step: Step) -> Reply;
 
-    /// A whole load.
+    /// Does a complete load.
     fn load(&mut self, alloc: Global, actor: Actor, load: Step) -> Result<(), Refusal>;
 
-    /// All steps of a worker that scan.
+    /// Does all steps of a worker that scan.
     fn drain(&mut self, alloc: Global, worker: u32) -> Result<(), Refusal>;
 
-    /// The image of the heap.
+    /// Returns the image of the heap.
     fn image(&self, alloc: Global) -> Result<Image, AllocError>;
 }
 
@@ -59,7 +59,7 @@ fn config(alloc: Global) -> Result<Config, AllocError> {
     Ok(config)
 }
 
-/// Thread 0 makes an object with a datum of 5 at page 1, offset 0, and stores it in the global.
+/// Thread 0 allocates an object with a datum of 5 at page 1, offset 0, and stores it in the global.
 fn make(book: &mut impl Telling) -> Result<(), Refusal> {
     let (target, layout) = (0, 0);
     let (object, index, value) = (0, 0, 5);
@@ -84,7 +84,7 @@ fn cross(book: &mut impl Telling) -> Result<(), Refusal> {
     Ok(())
 }
 
-/// An object that a register of each thread and the global name, on a page that a mark has closed.
+/// An object to which a register of each thread and the global refer, on a page that a mark has closed.
 fn close(alloc: Global, book: &mut impl Telling) -> Result<(), Refusal> {
     make(book)?;
     let (target, global) = (0, 0);
@@ -96,7 +96,7 @@ fn close(alloc: Global, book: &mut impl Telling) -> Result<(), Refusal> {
     Ok(())
 }
 
-/// Its page is emptied, and gives its frame up: the object moves to page 2.
+/// Its page is emptied, and its frame is released: the object moves to page 2.
 fn move_off(book: &mut impl Telling, pages: PageList) -> Result<(), Refusal> {
     let (page, entry) = (1, 0);
     book.act(WORKER, Step::Protect(pages))?;
@@ -106,8 +106,8 @@ fn move_off(book: &mut impl Telling, pages: PageList) -> Result<(), Refusal> {
     Ok(())
 }
 
-/// The next mark starts, and thread 0 loads the global: a trap has corrected the word of its load,
-/// which hasn't ended.
+/// The next mark starts, and thread 0 loads the global: a trap has corrected the reference of its load, which hasn't
+/// ended.
 fn trap(book: &mut impl Telling) -> Result<(), Refusal> {
     let (target, global) = (1, 0);
     book.act(WORKER, Step::StartMark)?;
@@ -117,23 +117,23 @@ fn trap(book: &mut impl Telling) -> Result<(), Refusal> {
     Ok(())
 }
 
-/// The list of page 1 alone.
+/// Returns the list of page 1 alone.
 fn first_page(alloc: Global) -> Result<PageList, AllocError> {
     Ok(PageList::new(vec![in alloc; 1; 1]?))
 }
 
-/// What is done on a heap before its image is taken.
+/// The steps on a heap before its image is taken.
 #[derive(Clone, Copy)]
 pub enum Story {
-    /// A mark has closed the page of an object that a register of each thread and the global name.
+    /// A mark has closed the page of an object to which a register of each thread and the global refer.
     Closed,
     /// Then the object has moved, and its old page is released.
     Moved,
-    /// Then the next mark has started, and a thread loads what names the object's old place.
+    /// Then the next mark has started, and a thread loads a reference to the object's old place.
     Trapped,
 }
 
-/// All that a story says is done.
+/// Does all steps of a story.
 fn act_out(alloc: Global, book: &mut impl Telling, story: Story) -> Result<(), Fail> {
     close(alloc, book)?;
     if matches!(story, Story::Closed) {
@@ -146,13 +146,13 @@ fn act_out(alloc: Global, book: &mut impl Telling, story: Story) -> Result<(), F
     Ok(())
 }
 
-/// The image of a book's heap at the end of a story.
+/// Returns the image of a recorded heap at the end of a story.
 fn image_of_end(alloc: Global, mut book: impl Telling + Drop, story: Story) -> Result<Image, Fail> {
     act_out(alloc, &mut book, story)?;
     Ok(book.image(alloc)?)
 }
 
-/// The image of a heap at the end of a story that began with a new one.
+/// Returns the image of a heap at the end of a story that began with a new one.
 pub fn told(alloc: Global, story: Story) -> Result<Image, Fail> {
     let book = Book::new(alloc, config(alloc)?)?;
     image_of_end(alloc, book, story)

@@ -31,7 +31,7 @@ fn book(alloc: Global) -> Result<Book, NewFault> {
     Book::new(alloc, config(alloc)?)
 }
 
-/// An object that names itself, and that a global names.
+/// An object that refers to itself, and to which a global refers.
 fn make_object(book: &mut Book) -> Result<(), Refusal> {
     let (target, layout) = (0, 0);
     act(book, THREAD, Step::Take(3))?;
@@ -78,14 +78,14 @@ fn move_object(book: &mut Book, pages: PageList) -> Result<(), Refusal> {
     Ok(())
 }
 
-/// The text of something.
+/// Returns the text of a value.
 fn text_of<D: Display>(alloc: Global, what: &D) -> Result<String, AllocError> {
     let mut text = String::new(alloc);
     write!(text, "{what}")?;
     Ok(text)
 }
 
-/// The heap of a book has an image of this text, and is sound.
+/// A recorded heap has an image of this text, and is sound.
 fn looks(rt: &impl Abort, alloc: Global, book: &Book, wanted: &str) -> Result<(), AllocError> {
     let image = image_of(alloc, book.heap())?;
     same(rt, text_of(alloc, &image)?.as_str(), wanted);
@@ -94,7 +94,7 @@ fn looks(rt: &impl Abort, alloc: Global, book: &Book, wanted: &str) -> Result<()
     Ok(())
 }
 
-/// A heap with that object.
+/// A heap with that object has this image.
 fn looks_at_an_object(
     rt: &impl Abort,
     alloc: Global,
@@ -126,7 +126,7 @@ fn the_image_of_a_heap(rt: HostRuntime) -> Result<(), Fail> {
     Ok(())
 }
 
-/// Its object moves.
+/// It has this image after its object moves.
 fn looks_at_a_move(
     rt: &impl Abort,
     alloc: Global,
@@ -161,7 +161,7 @@ fn the_image_of_an_object_that_moves(rt: HostRuntime) -> Result<(), Fail> {
     looks_at_a_move(&rt, alloc, book(alloc)?, pages, wanted)
 }
 
-/// A fault has this text, where pages have 16 words.
+/// A fault has this text, on pages of 16 words.
 fn reads(rt: &impl Abort, alloc: Global, fault: Fault, wanted: &str) -> Result<(), AllocError> {
     let fault = FaultText { fault, words: 16 };
     same(rt, text_of(alloc, &fault)?.as_str(), wanted);

@@ -1,4 +1,4 @@
-//! Tests of views: the whole heap is read in each phase of a collection, and by several threads at once.
+//! Tests of views: a complete heap is read in each phase of a collection, and by several threads at once.
 #![tactic(auto)]
 
 #[cfg(test)]

@@ -1,4 +1,4 @@
-//! Views: the whole heap is read in each phase of a collection, by several threads at once.
+//! Views: a complete heap is read in each phase of a collection, by several threads at once.
 
 use crate::same::{is_sound, same};
 use model::Refusal;
@@ -11,10 +11,10 @@ use std::thread::Threads;
 use std::time::Clock;
 use test_support_threads::team::{CELL, Job, POLICY, all_work, shared_heap};
 
-/// How many objects a part scans at most.
+/// The greatest number of objects that a part scans.
 const BUDGET: u32 = 3;
 
-/// More parts than three collections of this heap take.
+/// More parts than three collections of this heap have.
 const PARTS: u32 = 900;
 
 /// How many objects the list has.
@@ -23,7 +23,7 @@ const LENGTH: u32 = 60;
 /// The sum of the data of the list: 0 to 59.
 const SUM: u64 = 1770;
 
-/// Puts a number in front of the list in register 0, and makes an object that dies.
+/// Puts a number in front of the list in register 0, and allocates a garbage object.
 fn push(alloc: Global, mutator: &mut impl MutatorCalls, value: u64) -> Result<(), Refusal> {
     mutator.make(alloc, POLICY, 1, CELL)?;
     mutator.set_datum(1, 0, value)?;
@@ -54,7 +54,7 @@ fn fill_by<R: Wait>(
     fill(alloc, &mut *portion)
 }
 
-/// The sum of the data of the list in global 0, and how many objects it has.
+/// Returns the sum of the data of the list in global 0, and how many objects it has.
 fn sum(view: &View<'_>) -> Result<(u64, u32), Refusal> {
     let mut sum = 0u64;
     let mut length = 0u32;
@@ -70,7 +70,7 @@ fn sum(view: &View<'_>) -> Result<(u64, u32), Refusal> {
     Ok((sum, length))
 }
 
-/// Whether two handles name the same object.
+/// Returns whether two handles refer to the same object.
 fn is_same(left: &Option<Handle<'_>>, right: &Option<Handle<'_>>) -> bool {
     match (left, right) {
         (Some(left), Some(right)) => left.same(right) && left.object() == right.object(),
@@ -78,7 +78,7 @@ fn is_same(left: &Option<Handle<'_>>, right: &Option<Handle<'_>>) -> bool {
     }
 }
 
-/// What a view shows of the list: it is in a register and in a global, and both name the same object.
+/// Reads the list by a view: it is in a register and in a global, and both refer to the same object.
 fn look(view: &View<'_>) -> Result<(u64, u32, bool), Refusal> {
     let held = view.register(0, 0)?;
     let shown = view.global(0)?;
@@ -86,7 +86,7 @@ fn look(view: &View<'_>) -> Result<(u64, u32, bool), Refusal> {
     Ok((total, length, is_same(&held, &shown)))
 }
 
-/// A view of the list, while nothing changes.
+/// Reads the list by a view, while nothing changes.
 fn look_by<R: Wait>(rt: &R, shared: &SharedHeap) -> Result<(u64, u32, bool), Refusal> {
     let desk = shared.read(rt);
     look(&desk.view())
@@ -135,7 +135,7 @@ fn views_show_all_while_the_heap_is_collected(rt: HostRuntime) -> Result<(), Fai
     is_sound(&rt, rt.alloc(), shared)
 }
 
-/// What isn't there.
+/// Numbers that name nothing are rejected.
 fn missing(view: &View<'_>) -> Result<(), Refusal> {
     let Some(cell) = view.global(0)? else {
         return Err(Refusal::Null);
@@ -152,7 +152,7 @@ fn missing(view: &View<'_>) -> Result<(), Refusal> {
     }
 }
 
-/// The heap has a list; what isn't there is refused, and an empty register is null.
+/// The heap has a list; numbers that name nothing are rejected, and an empty register is null.
 fn refuses(
     rt: &impl Wait,
     alloc: Global,
@@ -189,7 +189,7 @@ struct Reader {
 const LISTS: u32 = 20;
 
 impl Reader {
-    /// A list is made in the place of the last one, with the same numbers.
+    /// Makes a list in the place of the last one, with the same numbers.
     fn makes<R: Wait>(
         &self,
         rt: &R,
@@ -203,7 +203,7 @@ impl Reader {
         Ok(SUM)
     }
 
-    /// The sum of the list, which each view shows the same.
+    /// Returns the sum of the list, which is the same in each view.
     fn reads<R: Wait>(&self, rt: &R, shared: &SharedHeap) -> Result<u64, Refusal> {
         let mut least = SUM;
         for _ in 0..TURNS {
@@ -224,7 +224,7 @@ impl Job for Reader {
     }
 }
 
-/// The first list is there before the others read.
+/// The first list exists before the others read.
 fn begin<R: Wait>(
     rt: &R,
     alloc: Global,

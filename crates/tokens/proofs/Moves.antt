@@ -1,4 +1,4 @@
--- Each step keeps the rule of the cell.
+-- Each step keeps the invariant of the cell.
 use Rattle.std.proofs.Common.{◌≡◌, ◌≢◌, ◌<◌, ◌+◌, ◌++◌, ℕ, zero, suc, List, [], ◌∷◌, length, set, true, false, arith}
 use Rattle.std.proofs.Common.{refl, sym, ap, ◌∙◌, subst, ◌⊎◌, inl, inr, ⊎_elim, true≢false}
 use Rattle.std.specs.Prelude.{◌==◌, if◌then◌else◌}

@@ -17,7 +17,7 @@ row_of rows t = get_or rows t []
 abbrev pub ChangesOnly : ℕ → Rows → Rows → Type 0
 ChangesOnly t old new = (u : ℕ) → u ≢ t → row_of new u ≡ row_of old u
 
--- the value of a keeper's token: the registers of all threads, and how many threads have got a token, in their order
+-- the value of a keeper's token: the registers of all threads, and how many threads have a token, in their order
 pub record KeeperState : Type 0 where
   pub rows : Rows
   pub dealt : ℕ

@@ -1,4 +1,4 @@
--- The values of tokens, and the rule that relates them.
+-- The values of tokens, and the invariant that relates them.
 use Rattle.std.specs.Prelude.{◌≡◌, ◌<◌, ℕ, List, [], true, false}
 use mathlib.Core.Option.{some}
 use lib.ListN.{get_elem?}
@@ -29,14 +29,14 @@ token_of t mine =
 abbrev pub nobody : View
 nobody = record { keeps = false; rows = []; dealt = 0; claims = false; thread = 0; registers = [] }
 
--- the rule for one view: at most one pass is the keeper's; the registers in a thread's token are the thread's, and a
--- thread has at most one token
+-- the invariant for one view: at most one pass is the keeper's; the registers in a thread's token are the thread's,
+-- and a thread has at most one token
 abbrev pub Fits : ℕ → Rows → ℕ → (ℕ → ℕ) → ℕ → View → Type 0
 Fits seat rows dealt owner by v =
     (v.keeps ≡ true → (by ≡ seat) × (v.rows ≡ rows) × (v.dealt ≡ dealt))
     × (v.claims ≡ true → (owner v.thread ≡ by) × (row_of rows v.thread ≡ v.registers) × (v.thread < dealt))
 
--- the rule: there are registers for which all views fit
+-- the invariant: there are registers for which all views fit
 abbrev pub Kept : List ℕ → List View → Type 0
 Kept words views =
     (seat : ℕ) × (rows : Rows) × (dealt : ℕ) × (owner : ℕ → ℕ)

@@ -39,7 +39,7 @@ pub struct View {
     pub keeps: bool,
     /// The registers of each thread, for a keeper.
     pub rows: LinkedList<LinkedList<Option<u64>>>,
-    /// How many threads have got a token from the keeper.
+    /// How many threads have a token from the keeper.
     pub dealt: u64,
     /// Whether it is a thread's.
     pub claims: bool,
@@ -49,7 +49,7 @@ pub struct View {
     pub registers: LinkedList<Option<u64>>,
 }
 
-/// The rule of the cell: the registers in a thread's pass are those that the keeper's pass has for the thread.
+/// The invariant of the cell: the registers in a thread's pass are those that the keeper's pass has for the thread.
 pub struct Knowing;
 
 impl Protocol<[u64; 1], View> for Knowing {

@@ -38,7 +38,7 @@ impl BlankCell {
     }
 }
 
-/// Sets the rows of a keeper that has none, before any thread has a token.
+/// Sets the registers of a keeper that has none, before any thread has a token.
 fn begin<B: Telling, R: Wait>(rt: &R, cell: &Cell, keeper: &mut Knower)
     requires cell { keeper.old.table_id ≡ cell.now.table.shared.table_id }
     requires keeps { cell_view keeper.old ≡ keeper_of [] 0 }
@@ -74,7 +74,7 @@ fn split(cell: &Cell, keeper: &mut Knower) -> Knower
     cell.split_pass::<Lays>(keeper)
 }
 
-/// Shows that the keeper's rows have the registers of a thread's token.
+/// Proves that the keeper has the registers of a thread's token for that thread.
 fn compare<R: Wait>(rt: &R, cell: &Cell, keeper: &mut Knower)
     requires cell { keeper.old.table_id ≡ cell.now.table.shared.table_id }
     requires both { cell_view keeper.old ≡ holder_of (cell_view keeper.old).rows (cell_view keeper.old).dealt
@@ -87,7 +87,7 @@ fn compare<R: Wait>(rt: &R, cell: &Cell, keeper: &mut Knower)
     cell.load_as::<Finds, R>(rt, keeper);
 }
 
-/// Sets the rows of the keeper and of a thread's token, where only those of this thread differ.
+/// Sets the registers of the keeper and of a thread's token; only those of this thread may have changed.
 fn set<B: Telling, R: Wait>(rt: &R, cell: &Cell, keeper: &mut Knower)
     requires cell { keeper.old.table_id ≡ cell.now.table.shared.table_id }
     requires both { cell_view keeper.old ≡ holder_of (cell_view keeper.old).rows (cell_view keeper.old).dealt
@@ -160,7 +160,7 @@ impl<N: CellName> KeeperToken<N> {
         }
     }
 
-    /// Makes the token of the next thread, from thread 0 on.
+    /// Returns the token of the next thread, from thread 0 on.
     pub fn deal(&mut self) -> ThreadToken<N>
         ensures token { result ≡ record { thread = self.old.dealt; registers = row_of self.old.rows self.old.dealt } }
         ensures keeper { self.new ≡ record { rows = self.old.rows; dealt = self.old.dealt + 1 } }

@@ -1,4 +1,4 @@
--- What a call changes of a heap with its policy, its increment and its counters.
+-- The changes of a call to a heap with its policy, its increment and its counters.
 use Rattle.std.specs.Prelude.{◌≡◌, ◌==◌, ◌/◌, ℕ, if◌then◌else◌, Result, Ok, Err}
 use Rattle.model.specs.declared.config.Config.{Config}
 use Rattle.model.specs.States.{HeapState}
@@ -19,7 +19,7 @@ usual_policy words frames =
 abbrev pub usual_budget : ℕ
 usual_budget = 400
 
--- a heap with the usual policy and budget, before its first collection, for which nothing was counted so far
+-- a heap with the usual policy and budget, before its first collection, with all counters at 0
 abbrev pub with_usual : HeapState → TypedHeap
 with_usual h = record {
   heap = h;
@@ -29,7 +29,7 @@ with_usual h = record {
   counters = no_counts;
 }
 
--- making one gives the first heap of a configuration with the usual policy
+-- making one returns the first heap of a configuration with the usual policy
 abbrev pub MakesTyped : Config → Result TypedHeap NewFault → Type 0
 MakesTyped c (Ok h) = MakesHeap c (Ok h.heap) × (h ≡ with_usual h.heap)
 MakesTyped c (Err f) = MakesHeap c (Err f)

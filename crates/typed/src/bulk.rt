@@ -1,4 +1,4 @@
-//! Data words that are copied from object to object, and data as bytes.
+//! Copying data words from object to object, and data as bytes.
 
 ghost use Rattle.std.specs.Prelude.{◌≡◌, length};
 ghost use Rattle.managed.specs.Bytes.{EndsReadingBytes, EndsWritingBytes};
@@ -10,8 +10,8 @@ use crate::owning::TypedHeap;
 use collecting::Holding;
 use model::Refusal;
 
-/// The calls that copy data words, and read and write them as bytes, with typed numbers. Each fails as the call that it
-/// names does, and then writes nothing to an object.
+/// The calls that copy data words, and read and write them as bytes, with typed numbers. Each fails as the call of
+/// `Holding` that its comment names, and then writes nothing to an object.
 pub trait BulkCalls {
     /// Copies `count` data words of the source's object, from word `first_of_source` on, to the target's object, from
     /// word `first` on, as `Holding::copy_data`. The two may be the same object, and overlap.

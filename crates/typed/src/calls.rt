@@ -1,4 +1,4 @@
-//! What a program calls on its heap.
+//! The calls of a program on its heap.
 
 use crate::numbers::{Datum, Field, GlobalNumber, LayoutNumber, Register, Thread};
 use collecting::{Collected, Counters, Object, Policy, PolicyFault, Target};
@@ -6,12 +6,12 @@ use managed::{FieldLoad, LoadsFault};
 use model::{Buffer, Refusal};
 use std::alloc::Global;
 
-/// What a program calls on its heap: the steps of `Mutating` and the calls of `Counting`, with typed numbers.
-/// Collections go by the heap's own policy and budget, continue its own increment, and count in its own counters.
+/// The calls of a program on its heap: the steps of `Mutating` and the calls of `Counting`, with typed numbers.
+/// Collections use the heap's own policy and budget, continue its own increment, and count in its own counters.
 ///
-/// Each call is as its contract says on a `TypedHeap`; a function that is generic over this trait knows nothing of what
-/// it calls, and is proved in short time. Each fails as the call that it names does, and a step that fails changes
-/// nothing. Lists of registers are plain numbers.
+/// Each call is as its contract says on a `TypedHeap`; a function that is generic over this trait depends on none of
+/// these contracts, and is proved in short time. Each fails as the call that its comment names, and a step that fails
+/// changes nothing. Lists of registers are plain numbers.
 pub trait HeapCalls {
     /// Takes a buffer of 1 to the words of a page, as `Mutating::take`.
     fn take(&mut self, thread: Thread, words: u32) -> Result<Buffer, Refusal>;
@@ -19,7 +19,7 @@ pub trait HeapCalls {
     /// Returns the thread's buffer, as `Mutating::give_back`.
     fn give_back(&mut self, thread: Thread) -> Result<(), Refusal>;
 
-    /// Makes an object in the thread's buffer, as `Mutating::new_object`. Returns its birth number.
+    /// Allocates an object in the thread's buffer, as `Mutating::new_object`. Returns its birth.
     fn new_object(
         &mut self,
         thread: Thread,
@@ -99,13 +99,13 @@ pub trait HeapCalls {
         values: &[u64],
     ) -> Result<(), Refusal>;
 
-    /// Whether two registers name the same object, or both none, as `Mutating::same`.
+    /// Returns whether two registers refer to the same object, or are both null, as `Mutating::same`.
     fn same(&self, thread: Thread, left: Register, right: Register) -> Result<bool, Refusal>;
 
-    /// Whether a register is null, as `Mutating::is_null`.
+    /// Returns whether a register is null, as `Mutating::is_null`.
     fn is_null(&self, thread: Thread, register: Register) -> Result<bool, Refusal>;
 
-    /// Copies a register to another one, as `Mutating::copy_register`.
+    /// Copies a register's reference to another register, as `Mutating::copy_register`.
     fn copy_register(
         &mut self,
         thread: Thread,
@@ -116,7 +116,7 @@ pub trait HeapCalls {
     /// Makes a register null, as `Mutating::clear_register`.
     fn clear_register(&mut self, thread: Thread, target: Register) -> Result<(), Refusal>;
 
-    /// Returns the birth, the layout and the sizes of the object that a register names, as `Holding::object`.
+    /// Returns the birth, the layout and the sizes of the object that a register refers to, as `Holding::object`.
     fn object(&self, thread: Thread, register: Register) -> Result<Object, Refusal>;
 
     /// Parks the thread, as `Mutating::park`: it may do nothing but `unpark`.
@@ -125,8 +125,7 @@ pub trait HeapCalls {
     /// Lets the thread run again, as `Mutating::unpark`.
     fn unpark(&mut self, thread: Thread) -> Result<(), Refusal>;
 
-    /// Makes an object, for which the heap is collected if frames are low, as `Holding::make`. Returns its birth
-    /// number.
+    /// Allocates an object, for which the heap is collected if frames are low, as `Holding::make`. Returns its birth.
     fn make(
         &mut self,
         alloc: Global,
@@ -135,8 +134,8 @@ pub trait HeapCalls {
         layout: LayoutNumber,
     ) -> Result<u64, Refusal>;
 
-    /// Makes an object as `make` does, and fills its first references from `sources`, which are numbers of registers,
-    /// and its first data words, as `Holding::make_with`.
+    /// Allocates an object as `make` does, and fills its first references from `sources`, which are numbers of
+    /// registers, and its first data words, as `Holding::make_with`.
     fn make_with(
         &mut self,
         alloc: Global,
@@ -147,8 +146,8 @@ pub trait HeapCalls {
         nums: &[u64],
     ) -> Result<u64, Refusal>;
 
-    /// Makes an object during a collection in parts, as `Holding::make_paced`: a fresh buffer's share of its parts comes
-    /// first. Returns the birth number.
+    /// Allocates an object during a collection in parts, as `Holding::make_paced`: a fresh buffer's share of its
+    /// parts comes first. Returns the birth.
     fn make_paced(
         &mut self,
         alloc: Global,
@@ -157,7 +156,7 @@ pub trait HeapCalls {
         layout: LayoutNumber,
     ) -> Result<u64, Refusal>;
 
-    /// Makes an object as `make_paced` does, and fills it as `make_with` does.
+    /// Allocates an object as `make_paced` does, and fills it as `make_with` does.
     fn make_with_paced(
         &mut self,
         alloc: Global,
@@ -180,7 +179,7 @@ pub trait HeapCalls {
     /// Returns the policy by which the heap is collected.
     fn policy(&self) -> Policy;
 
-    /// Sets the policy. Fails with the first field that is out of its range, and changes nothing then.
+    /// Sets the policy. Fails with the first field that is out of its range, and then changes nothing.
     fn set_policy(&mut self, policy: Policy) -> Result<(), PolicyFault>;
 
     /// Returns the budget: how many objects a part of a collection may scan.
@@ -195,11 +194,11 @@ pub trait HeapCalls {
     /// Returns how many frames' memory is kept for the next pages, as `Holding::kept_frames`.
     fn kept_frames(&self) -> usize;
 
-    /// Returns memory of free frames to the allocator, but for that of `most` frames, as `Holding::trim`. Nothing of
-    /// the heap changes.
+    /// Releases the memory of free frames to the allocator, except that of `most` frames, as `Holding::trim`. The
+    /// state of the heap stays.
     fn trim(&mut self, most: usize);
 
-    /// Sets a target by the frames in use, as `Holding::follow`, and returns memory that it does not allow. Nothing of
-    /// the heap changes.
+    /// Sets a target by the frames in use, as `Holding::follow`, and releases memory that it doesn't allow. The state
+    /// of the heap stays.
     fn follow(&mut self, target: &mut Target);
 }

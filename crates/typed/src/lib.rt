@@ -1,7 +1,7 @@
 //! A heap that owns its policy, its increment and its counters, and whose calls take typed numbers.
 //!
-//! Numbers of a thread, a register, a field, a data word, a layout and a global are of different types, so a program
-//! that swaps two of different types does not compile. A typed number is its number and no byte more.
+//! Numbers of a thread, a register, a field, a data word, a layout and a global have different types, so a program
+//! that swaps two of different types does not compile. A typed number takes no more memory than the number.
 #![tactic(auto)]
 
 mod acting;

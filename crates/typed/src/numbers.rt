@@ -1,4 +1,4 @@
-//! Numbers of different types: each counts from 0, and is its number and no byte more.
+//! Numbers of different types: each counts from 0, and takes no more memory than the number.
 
 /// The number of a mutator thread, from 0.
 #[derive(Clone, Copy, Debug, PartialEq, Eq)]

@@ -24,8 +24,8 @@ pub struct TypedHeap {
 }
 
 impl TypedHeap {
-    /// Makes the first heap of a configuration, with its usual policy (`Policy::usual`) and a budget of `USUAL_BUDGET`.
-    /// Fails as `ManagedHeap::new` does.
+    /// Makes the first heap of a configuration, with its usual policy (`Policy::usual`) and a budget of
+    /// `USUAL_BUDGET`. Fails as `ManagedHeap::new` does.
     pub fn new(alloc: Global, config: Config) -> Result<TypedHeap, NewFault>
         ensures { MakesTyped config result }
     {
@@ -51,14 +51,14 @@ impl TypedHeap {
         }
     }
 
-    /// What holds of every heap: `ManagedHeap::law` of the heap inside. It changes nothing and never fails.
+    /// Proves the promises of every heap: `ManagedHeap::law` of the heap inside. It changes nothing and can't fail.
     pub fn law(&self)
         ensures { Promises self.now.heap }
     {
         self.heap.law();
     }
 
-    /// Returns the heap inside, for all that reads it.
+    /// Returns the heap inside, for calls that read it.
     #[inline(always)]
     pub fn managed(&self) -> &ManagedHeap
         ensures { result.now ≡ self.now.heap }

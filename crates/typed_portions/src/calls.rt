@@ -1,4 +1,4 @@
-//! What a thread does in a portion, with typed numbers.
+//! The calls of a thread in a portion, with typed numbers.
 
 use collecting::{Collected, Object, Policy};
 use managed::{FieldLoad, LoadsFault};
@@ -6,21 +6,21 @@ use model::{Buffer, Refusal};
 use std::alloc::Global;
 use typed::{Datum, Field, GlobalNumber, LayoutNumber, Register};
 
-/// What a thread does in a portion: the calls of `portions::MutatorCalls`, with typed numbers, so that a call with two
+/// The calls of a thread in a portion: those of `portions::MutatorCalls`, with typed numbers, so that a call with two
 /// of different types swapped does not compile. Each call has the clauses of the call of `MutatorCalls` of the same
-/// name; a function that is generic over this trait knows nothing of what it calls, and is proved in short time. Lists
-/// of registers are plain numbers.
+/// name; a function that is generic over this trait depends on none of them, and is proved in short time. Lists of
+/// registers are plain numbers.
 ///
-/// In a portion its thread runs, and between two calls neither a load nor a checkpoint is open, as `Mutator::law` says:
-/// so a step of the thread never stalls, and no thread has still to cross.
+/// In a portion its thread runs, and between two calls neither a load nor a checkpoint is open, by `Mutator::law`: so
+/// a step of the thread never stalls, and all threads have crossed.
 pub trait PortionCalls {
-    /// Takes a buffer, as `Mutating::take`: `Memory` if memory for a fresh page was refused.
+    /// Takes an allocation buffer, as `Mutating::take`: `Memory` if out of memory for a fresh page.
     fn take(&mut self, words: u32) -> Result<Buffer, Refusal>;
 
     /// Returns the buffer, as `Mutating::give_back`.
     fn give_back(&mut self) -> Result<(), Refusal>;
 
-    /// Makes an object in the buffer, as `Mutating::new_object`.
+    /// Allocates an object in the buffer, as `Mutating::new_object`.
     fn new_object(&mut self, target: Register, layout: LayoutNumber) -> Result<u64, Refusal>;
 
     /// Loads a reference field of an object into a register, as `Holding::read`.
@@ -41,19 +41,19 @@ pub trait PortionCalls {
     /// Writes a data word of an object, as `Mutating::set_datum`.
     fn set_datum(&mut self, object: Register, index: Datum, value: u64) -> Result<(), Refusal>;
 
-    /// Whether two registers name the same object, or both none, as `Mutating::same`.
+    /// Returns whether two registers refer to the same object, or are both null, as `Mutating::same`.
     fn same(&self, left: Register, right: Register) -> Result<bool, Refusal>;
 
-    /// Whether a register is null, as `Mutating::is_null`.
+    /// Returns whether a register is null, as `Mutating::is_null`.
     fn is_null(&self, register: Register) -> Result<bool, Refusal>;
 
-    /// Copies a register to another one, as `Mutating::copy_register`.
+    /// Copies a register's reference to another register, as `Mutating::copy_register`.
     fn copy_register(&mut self, target: Register, source: Register) -> Result<(), Refusal>;
 
     /// Makes a register null, as `Mutating::clear_register`.
     fn clear_register(&mut self, target: Register) -> Result<(), Refusal>;
 
-    /// Returns the object that a register names, as `Holding::object`.
+    /// Returns the object that a register refers to, as `Holding::object`.
     fn object(&self, register: Register) -> Result<Object, Refusal>;
 
     /// Loads several reference fields of an object, as `Holding::loads`.
@@ -82,8 +82,8 @@ pub trait PortionCalls {
     /// Writes bytes of an object's data, from byte `offset` on, as `Holding::write_bytes`.
     fn write_bytes(&mut self, object: Register, offset: u32, bytes: &[u8]) -> Result<(), Refusal>;
 
-    /// Makes an object, with the room that it needs, as `Holding::make`: `Memory` if memory for a fresh page was
-    /// refused. All threads cross the checkpoint that its collection has left open, if there is one.
+    /// Allocates an object, with the space that it needs, as `Holding::make`: `Memory` if out of memory for a fresh
+    /// page. All threads cross the checkpoint that its collection has left open, if there is one.
     fn make(
         &mut self,
         alloc: Global,
@@ -92,8 +92,8 @@ pub trait PortionCalls {
         layout: LayoutNumber,
     ) -> Result<u64, Refusal>;
 
-    /// Makes an object and fills it, as `Holding::make_with`. All threads cross the checkpoint that its collection
-    /// has left open, if there is one.
+    /// Allocates an object and fills it, as `Holding::make_with`. All threads cross the checkpoint that its
+    /// collection has left open, if there is one.
     fn make_with(
         &mut self,
         alloc: Global,
@@ -104,9 +104,9 @@ pub trait PortionCalls {
         nums: &[u64],
     ) -> Result<u64, Refusal>;
 
-    /// Takes a fresh buffer, for which the heap is collected if frames run low, as `Holding::refill`: `Memory` if
-    /// memory for a fresh page was refused. All threads cross the checkpoint that its collection has left open, if
-    /// there is one.
+    /// Takes a fresh buffer, for which the heap is collected if frames run low, as `Holding::refill`: `Memory` if out
+    /// of memory for a fresh page. All threads cross the checkpoint that its collection has left open, if there is
+    /// one.
     fn refill(&mut self, alloc: Global, policy: Policy) -> Result<Buffer, Refusal>;
 
     /// Collects the heap, as `Holding::collect`. All threads cross the checkpoint that it has left open, if
@@ -116,7 +116,7 @@ pub trait PortionCalls {
     /// Returns how many frames' memory is kept for the next pages, as `Holding::kept_frames`.
     fn kept_frames(&self) -> usize;
 
-    /// Gives memory of free frames back to the allocator, but for that of `most` frames, as `Holding::trim`. Nothing of
-    /// the heap changes.
+    /// Releases the memory of free frames to the allocator, except that of `most` frames, as `Holding::trim`. The
+    /// state of the heap stays.
     fn trim(&mut self, most: usize);
 }

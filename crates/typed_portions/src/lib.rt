@@ -1,4 +1,4 @@
-//! What a thread does on a heap that threads share, by typed numbers.
+//! The calls of a thread on a heap that threads share, with typed numbers.
 #![tactic(auto)]
 
 mod acting;

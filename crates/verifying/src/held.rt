@@ -1,4 +1,4 @@
-//! A managed heap is verified.
+//! Verifies a managed heap.
 
 ghost use Rattle.std.specs.Prelude.{◌≡◌, IfOk};
 ghost use Rattle.verify.specs.Faults.{VerdictIs};
@@ -10,8 +10,8 @@ use managed::ManagedHeap;
 use std::alloc::{AllocError, Global};
 use verify::{Verdict, one_verdict};
 
-/// Whether a managed heap is sound as it stands, or else its first fault (ours): the verdict on its image,
-/// which is that it is sound. Its time is linear in the words of all frames and pages. Fails only by memory.
+/// Returns the verdict on the image of a managed heap, which is that it is sound. Its time is linear in the words of
+/// all frames and pages. Fails only if out of memory.
 pub fn verify_held(alloc: Global, heap: &ManagedHeap) -> Result<Verdict, AllocError>
     ensures verdict { IfOk result (VerdictIs (image_of heap.now)) }
     ensures sound { IfOk result (λ verdict. verdict ≡ Sound) }

@@ -1,4 +1,4 @@
-//! The verifier on a heap that a program holds.
+//! The verifier for the heap of a program.
 #![tactic(auto)]
 
 mod held;

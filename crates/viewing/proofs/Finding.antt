@@ -1,4 +1,4 @@
--- What is found through the words of a heap: what each plain heap has that the heap stands for.
+-- References of a heap lead to what each reference model has that the heap represents.
 use Rattle.std.proofs.Common.{◌≡◌, ◌⊎◌, inl, inr, ℕ, ◌+◌, ◌/◌, ◌<◌, ◌≤◌, arith, Bool, true, length}
 use Rattle.std.proofs.Common.{Option, Some, None, refl, sym, ◌∙◌, ap, subst, nat_eq, eq-eqb, ne_eqb, ◌≢◌}
 use Rattle.std.proofs.lemmas.Bool.{cases_eq}
@@ -34,13 +34,13 @@ use Rattle.viewing.proofs.Seeing.{NamesReachable, register_named, global_named, 
 use Rattle.viewing.proofs.Seeing.{field_named, field_plain, field_missing, field_readable, datum_plain}
 use Rattle.viewing.proofs.Seeing.{datum_missing, datum_readable, header_readable, birth_plain, same_birth, shape_plain, layout_known}
 
--- a plain heap has at a place what a word names
+-- a reference model has at a place what a reference refers to
 pub record IsEntry (h : HeapState) (p : PlainHeap) (w : Reference) (entry : Option (Option ℕ)) : Type 0 where
   pub found : Option ℕ
   pub named : NamesReachable h p (as_word w) found
   pub is : entry ≡ Some found
 
--- a word of a heap is found where its object is now
+-- the object of a reference is found at its current place
 pub found_entry : (h : HeapState) (w : Reference) (entry : PlainHeap → Option (Option ℕ))
     → ((p p0 : PlainHeap) → Holds h p p0 → IsEntry h p w (entry p)) → ReadsEntry h entry (Ok (place_of h w))
 found_entry h None entry each = λ p p0 k.
@@ -50,7 +50,7 @@ found_entry h (Some (a, n)) entry each = (
   λ p p0 k. (let e = each p p0 k in e.is ∙ ap Some (named_seen k a n e.found e.named)),
 )
 
--- where a page is usable, an address on it is where its object is
+-- if a page is usable, an address on it is its object's current place
 pub usable_stays : (h : HeapState) (p p0 : PlainHeap) → Holds h p p0 → (a f : ℕ)
     → usable_frame h.store (a / h.store.words) ≡ Some f → resolve (world_of h) a ≡ a
 usable_stays h p p0 k a f e = stays_there k a (usable_unprotected h.store (a / h.store.words) f e)
@@ -109,7 +109,7 @@ module _ (h : HeapState) (s : IsStore h.store) (d : IsHeap h) (a : ℕ) (x : IsH
       → ReadsEntry h (field_entry (handle_at h a) i) (Err refusals.BadIndex)
   field_not_found i e = (refl, λ p p0 k. field_missing k a (x p p0 k) i e)
 
-  -- the same, one plain heap at a time
+  -- the same for each reference model
 
   pub field_absent : (i : ℕ) → field_at h a i ≡ None → (p p0 : PlainHeap) → Holds h p p0
       → field_entry (handle_at h a) i p ≡ None
@@ -151,7 +151,7 @@ module _ (h : HeapState) (s : IsStore h.store) (d : IsHeap h) (a : ℕ) (x : IsH
     shape = λ p p0 k. shape_plain k a (x p p0 k) header l word known;
   }
 
--- words
+-- references
 
 pub placed_at_once : (h : HeapState) → Promises h → (w : Reference) (a : ℕ) (o : Option ℕ) → Some a ≡ address_in w
     → o ≡ usable_frame h.store (a / h.store.words) → is_some o ≡ true → Some a ≡ place_of h w
@@ -171,7 +171,7 @@ placed h (Some (b, bit)) a n e f =
 
 -- handles
 
--- what was found at an address, as handles
+-- the handles of what was found at an address
 pub handles_found : (h : HeapState) (entry : PlainHeap → Option (Option ℕ)) (o : Option ℕ) (r : Option HandleState)
     → ReadsEntry h entry (Ok o) → r ≡ option_map (handle_at h) o → FindsEntry h entry (Ok r)
 handles_found h entry o r reads e = subst (λ r. FindsEntry h entry (Ok r)) (sym e) (by_case o reads)
@@ -188,7 +188,7 @@ same_at h a c m x y = by_test (cases_eq a c)
     by_test (inl e) = eq-eqb a c e ∙ sym (eq-eqb _ _ (ap (λ n. birth_seen (handle_at h n)) e))
     by_test (inr e) = ne_eqb a c e ∙ sym (ne_eqb _ _ (λ f. e (same_birth m.holds a c (x _ _ m.holds) (y _ _ m.holds) f)))
 
--- two handles of a heap name one birth exactly where they are at one address
+-- two handles of a heap refer to one birth exactly if they have one address
 pub same_found : (x y : HandleState) (b : Bool) → Promises x.heap → IsHandle x → IsHandle y
     → b ≡ nat_eq x.address y.address → x.heap ≡ y.heap → b ≡ nat_eq (birth_seen x) (birth_seen y)
 same_found x y b m f g e same =

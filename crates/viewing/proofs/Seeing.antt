@@ -1,4 +1,4 @@
--- What the words of a heap tell of a plain heap that it stands for.
+-- What the references of a heap show of a reference model that it represents.
 use Rattle.std.proofs.Common.{◌≡◌, ℕ, ◌+◌, ◌/◌, ◌%◌, ◌<◌, ◌≤◌, arith, Bool, false, List}
 use Rattle.std.proofs.Common.{length, Option, Some, None, refl, sym, ◌∙◌, ap, subst}
 use Rattle.std.specs.List.{slice_get}
@@ -36,7 +36,7 @@ use Rattle.refinement.proofs.Verdicts.{field_there, field_past, datum_there, dat
 use Rattle.refinement.proofs.Written.{word_there}
 use Rattle.viewing.specs.Viewing.{SeesReachable, IsShaped, birth_in}
 
--- a word names this, nothing or a birth, which can be reached
+-- a reference leads to this: nothing, or a reachable birth
 pub record NamesReachable (h : HeapState) (p : PlainHeap) (v : Word) (found : Option ℕ) : Type 0 where
   pub names : names (world_of h) v ≡ Some found
   pub reachable : (b : ℕ) → found ≡ Some b → IsReachable (births_of p) b
@@ -45,13 +45,13 @@ module _ {h : HeapState} {p p0 : PlainHeap} (k : Holds h p p0) where
   plain : StandsForPlain (world_of h) (births_of p)
   plain = stands (world_of h) (births_of p) (births_of p0) k.invariant
 
-  -- the object of a birth that can be reached holds what the plain heap's does
+  -- the object of a reachable birth has what the reference model's has
   is_at : (a : ℕ) (q : HeapObject) → current (world_of h) a ≡ Some q → IsReachable (births_of p) q.birth
       → At (world_of h) (births_of p) a q
   is_at a q here r = reading.at (world_of h) (births_of p) (births_of p0) k.invariant a q here
       (reachable_kept (world_of h) (births_of p) q.birth r)
 
-  -- what roots name
+  -- what roots refer to
 
   pub register_named : (t r : ℕ) → NamesReachable h p (as_word (register_of h t r)) (name_of p t r)
   register_named t r = record {
@@ -66,7 +66,7 @@ module _ {h : HeapState} {p p0 : PlainHeap} (k : Holds h p p0) where
     reachable = λ b e. Start b (InGlobal g e);
   }
 
-  -- where the object of a word is
+  -- the current place of a reference's object
 
   pub handle_seen : (a : ℕ) (n : Bool) (found : Option ℕ) → NamesReachable h p (To a n) found
       → SeesReachable h p (resolve (world_of h) a)
@@ -82,7 +82,7 @@ module _ {h : HeapState} {p p0 : PlainHeap} (k : Holds h p p0) where
       reading.named (world_of h) a n found v.names in
       o.birth ∙ ap (λ x. Some (birth_in x)) (sym o.here)
 
-  -- an address on a page that isn't protected is where its object is
+  -- an address on a page that isn't protected is its object's current place
   pub stays_there : (a : ℕ) → is_protected (state_at h.store (a / h.store.words)) ≡ false → resolve (world_of h) a ≡ a
   stays_there a free = by_entry ((world_of h).side_entry a) refl
     where
@@ -106,7 +106,7 @@ module _ {h : HeapState} {p p0 : PlainHeap} (k : Holds h p p0) where
     birth_here : birth_in (current (world_of h) a) ≡ q.birth
     birth_here = ap birth_in x.here
 
-    -- a reference that is there is in the plain heap
+    -- a reference that exists is in the reference model
     pub field_plain : (i ahead : ℕ) → field_at h a i ≡ Some (a + ahead)
         → field_of (slice_get p.objects (birth_in (current (world_of h) a))) i ≡ Some (ref (births_of p) q.birth i)
     field_plain i ahead at =
@@ -114,7 +114,7 @@ module _ {h : HeapState} {p p0 : PlainHeap} (k : Holds h p p0) where
         ap (λ b. field_of (slice_get p.objects b) i) birth_here
         ∙ plain_field (slice_get p.objects q.birth) i (omega (arith, low, holds.refs_length))
 
-    -- a reference that isn't there isn't in the plain heap
+    -- a reference that doesn't exist isn't in the reference model
     pub field_missing : (i : ℕ) → field_at h a i ≡ None
         → field_of (slice_get p.objects (birth_in (current (world_of h) a))) i ≡ None
     field_missing i e = ap (λ b. field_of (slice_get p.objects b) i) birth_here
@@ -184,7 +184,7 @@ module _ {h : HeapState} {p p0 : PlainHeap} (k : Holds h p p0) where
         (sym same ∙ number, sym as_many ∙ refs, ap (λ (l : List ℕ). length l) (sym same_data) ∙ nums)
 
     module _ (s : IsStore h.store) where
-      -- a reference that was read names what the plain heap has
+      -- a reference that was read leads to what the reference model has
       pub field_named : (i ahead bits : ℕ) → field_at h a i ≡ Some (a + ahead)
           → word_at h.store (a + ahead) ≡ Some bits
           → NamesReachable h p (as_word (read_reference bits)) (ref (births_of p) q.birth i)
@@ -199,7 +199,7 @@ module _ {h : HeapState} {p p0 : PlainHeap} (k : Holds h p p0) where
             reachable = λ b e. Next q.birth b i x.reachable e;
           }
 
-      -- the word of an object is in memory
+      -- each word of an object is in memory
       word_is : (n : ℕ) → n < object_size q → word_at h.store (a + n) ≡ None → ⊥
       word_is n low e =
           let t = there h a q here in
@@ -233,7 +233,7 @@ module _ {h : HeapState} {p p0 : PlainHeap} (k : Holds h p p0) where
       pub header_readable : word_at h.store a ≡ None → ⊥
       header_readable e = word_is 0 (omega arith) (ap (word_at h.store) (omega arith) ∙ e)
 
-  -- two handles of a heap have one address exactly where they name one birth
+  -- two handles of a heap have one address exactly if they refer to one birth
   pub same_birth : (a c : ℕ) → SeesReachable h p a → SeesReachable h p c
       → birth_in (current (world_of h) a) ≡ birth_in (current (world_of h) c) → a ≡ c
   same_birth a c x y e = k.invariant.objects.one_current a c x.object y.object x.here y.here

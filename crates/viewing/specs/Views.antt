@@ -5,6 +5,6 @@ use Rattle.viewing.specs.declared.handle.Handle.TheInside.{Inside}
 abbrev pub handle_of : Inside → HandleState
 handle_of s = record { heap = s.heap.now; address = s.address }
 
--- it names an object that can be reached
+-- it refers to a reachable object
 abbrev pub IsHandleInside : Inside → Type 0
 IsHandleInside s = IsHandle (handle_of s)

@@ -30,7 +30,7 @@ impl<'a> Model for Handle<'a> {
     ghost invariant = { IsHandleInside };
 }
 
-/// The handle of an object that was found.
+/// Returns the handle of an object that was found.
 pub(crate) fn handle_of<'a>(heap: &'a ManagedHeap, found: Option<Addr>) -> Option<Handle<'a>>
     requires { IfSome found (λ a. IsHandle (handle_at heap.now a)) }
     ensures { result ≡ option_map (handle_at heap.now) found }
@@ -40,8 +40,8 @@ pub(crate) fn handle_of<'a>(heap: &'a ManagedHeap, found: Option<Addr>) -> Optio
 }
 
 impl<'a> Handle<'a> {
-    /// Returns the object that a reference of this object names, or `None` if it is null. References count from 0.
-    /// Refused as `BadIndex` if the object has no such reference.
+    /// Returns the object that a reference of this object refers to, or `None` if it is null. References count from
+    /// 0. Fails with `BadIndex` if the object has no such reference.
     pub fn load(&self, index: u32) -> Result<Option<Handle<'a>>, Refusal>
         ensures { FindsEntry self.now.heap (field_entry self.now index) result }
     {
@@ -49,7 +49,7 @@ impl<'a> Handle<'a> {
         Ok(handle_of(self.heap, found))
     }
 
-    /// Returns a data word of this object. Data words count from 0. Refused as `BadIndex` if the object has no such
+    /// Returns a data word of this object. Data words count from 0. Fails with `BadIndex` if the object has no such
     /// data word.
     pub fn datum(&self, index: u32) -> Result<u64, Refusal>
         ensures { ReadsDatum self.now index result }
@@ -57,14 +57,14 @@ impl<'a> Handle<'a> {
         data_word_at(self.heap, self.address, index)
     }
 
-    /// Returns the birth number of this object, its layout, and how many references and data words it has.
+    /// Returns the birth of this object, its layout, and how many references and data words it has.
     pub fn object(&self) -> Object
         ensures { TellsObject self.now result }
     {
         object_at(self.heap, self.address).unwrap()
     }
 
-    /// Whether two handles of one heap name the same object.
+    /// Returns whether two handles of one heap refer to the same object.
     pub fn same(&self, other: &Handle<'_>) -> bool
         ensures { self.now.heap ≡ other.now.heap → result ≡ nat_eq (birth_seen self.now) (birth_seen other.now) }
     {

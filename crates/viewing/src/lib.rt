@@ -1,4 +1,4 @@
-//! A managed heap that is read as a whole, without steps, while nothing changes it.
+//! Views: read-only access to a complete managed heap, without steps, while nothing changes it.
 #![tactic(auto)]
 
 mod handle;

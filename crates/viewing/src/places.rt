@@ -1,5 +1,6 @@
-//! The whole heap by addresses: what a handle's calls do, for callers that hold an address alone. An address is one that
-//! a call here has returned since the heap was changed last; a call with any other is safe, and its result has no meaning.
+//! A complete heap by addresses: what a handle's calls do, for callers that keep only an address. An address is valid
+//! if a call here has returned it since the heap last changed; a call with another address is safe, but its result
+//! has no meaning.
 
 ghost use Rattle.std.specs.Prelude.{◌≡◌, ◌+◌, ◌<◌, ◌^◌, IfSome};
 ghost use Rattle.std.specs.Option.{option_map};
@@ -14,7 +15,7 @@ use managed::ManagedHeap;
 use model::Refusal;
 use refword::{Addr, Word};
 
-/// Where the object of a word is now, if the word isn't null.
+/// Returns the current address of a reference's object, or `None` for null.
 #[tactic(auto, using(crate::proofs::Finding::placed, crate::proofs::Finding::placed_at_once))]
 fn place_of(heap: &ManagedHeap, word: Word) -> Option<Addr>
     ensures { result ≡ place_of heap.now word }
@@ -28,8 +29,8 @@ fn place_of(heap: &ManagedHeap, word: Word) -> Option<Addr>
     Some(heap.heap().resolve(address))
 }
 
-/// Returns the address of the object that a register of a thread names, or `None` if the register is null. Threads and
-/// registers count from 0. Refused as `BadIndex` if the heap has no such thread or register.
+/// Returns the address of the object that a register of a thread refers to, or `None` if the register is null.
+/// Threads and registers count from 0. Fails with `BadIndex` if the heap has no such thread or register.
 #[tactic(auto, using(crate::proofs::Finding::register_found))]
 pub fn register_at(heap: &ManagedHeap, thread: u32, register: u32) -> Result<Option<Addr>, Refusal>
     ensures { ReadsEntry heap.now (register_entry thread register) result }
@@ -44,8 +45,8 @@ pub fn register_at(heap: &ManagedHeap, thread: u32, register: u32) -> Result<Opt
     Ok(place_of(heap, inside.register(thread, register)))
 }
 
-/// Returns the address of the object that a global names, or `None` if the global is null. Globals count from 0.
-/// Refused as `BadIndex` if the heap has no such global.
+/// Returns the address of the object that a global refers to, or `None` if the global is null. Globals count from 0.
+/// Fails with `BadIndex` if the heap has no such global.
 #[tactic(auto, using(crate::proofs::Finding::global_found))]
 pub fn global_at(heap: &ManagedHeap, global: u32) -> Result<Option<Addr>, Refusal>
     ensures { ReadsEntry heap.now (global_entry global) result }
@@ -57,8 +58,8 @@ pub fn global_at(heap: &ManagedHeap, global: u32) -> Result<Option<Addr>, Refusa
     Ok(place_of(heap, inside.global(global)))
 }
 
-/// Returns the address of the object that a reference of the object at an address names, or `None` if it is null.
-/// References count from 0. Refused as `BadIndex` if the object has no such reference.
+/// Returns the address of the object that a reference of the object at an address refers to, or `None` if it is null.
+/// References count from 0. Fails with `BadIndex` if the object has no such reference.
 #[tactic(auto, using(crate::proofs::Finding::field_found, crate::proofs::Finding::field_absent, crate::proofs::Finding::field_readable_here))]
 pub fn reference_at(heap: &ManagedHeap, address: Addr, index: u32) -> Result<Option<Addr>, Refusal>
     ensures { IsHandle (handle_at heap.now address)
@@ -76,7 +77,7 @@ pub fn reference_at(heap: &ManagedHeap, address: Addr, index: u32) -> Result<Opt
     Ok(place_of(heap, read_reference(bits)))
 }
 
-/// How many words after the address of an object a data word of it stands.
+/// Returns the offset of a data word in its object, in words, by the object's address.
 #[tactic(auto, unfolding(model::specs::Data::datum_at))]
 fn datum_ahead(heap: &Heap, address: Addr, index: u32) -> Option<u64>
     ensures value { option_map (λ k. address + k) result ≡ datum_at heap.now address index }
@@ -89,7 +90,7 @@ fn datum_ahead(heap: &Heap, address: Addr, index: u32) -> Option<u64>
     Some(1 + u64::from(layout.refs) + u64::from(index))
 }
 
-/// Returns a data word of the object at an address. Data words count from 0. Refused as `BadIndex` if the object has
+/// Returns a data word of the object at an address. Data words count from 0. Fails with `BadIndex` if the object has
 /// no such data word.
 #[tactic(auto, using(crate::proofs::Finding::datum_not_found, crate::proofs::Finding::datum_readable_here))]
 pub fn data_word_at(heap: &ManagedHeap, address: Addr, index: u32) -> Result<u64, Refusal>
@@ -107,7 +108,7 @@ pub fn data_word_at(heap: &ManagedHeap, address: Addr, index: u32) -> Result<u64
     Ok(value)
 }
 
-/// Returns the object at an address, as its header tells it. Refused as `BadIndex` if none is there.
+/// Returns the object at an address, by its header. Fails with `BadIndex` if there is none.
 #[tactic(auto, using(crate::proofs::Finding::header_readable_here, crate::proofs::Finding::layout_known_here))]
 pub fn object_at(heap: &ManagedHeap, address: Addr) -> Result<Object, Refusal>
     ensures { IsHandle (handle_at heap.now address) → TellsOk (handle_at heap.now address) result }

@@ -9,7 +9,7 @@ use managed::ManagedHeap;
 use model::Refusal;
 use std::marker::Model;
 
-/// A heap that is read as a whole, in any phase of a collection, for as long as nothing changes it. A view changes
+/// A complete heap, to be read in any phase of a collection, for as long as nothing changes it. A view changes
 /// nothing either, so threads may read one heap at the same time.
 #[derive(Drop)]
 pub struct View<'a> {
@@ -25,15 +25,15 @@ impl<'a> Model for View<'a> {
 }
 
 impl<'a> View<'a> {
-    /// A view of a heap.
+    /// Returns a view of a heap.
     pub fn of(heap: &'a ManagedHeap) -> View<'a>
         ensures { result ≡ heap.now }
     {
         View { heap }
     }
 
-    /// Returns the object that a register of a thread names, or `None` if the register is null. Threads and registers
-    /// count from 0. Refused as `BadIndex` if the heap has no such thread or register.
+    /// Returns the object that a register of a thread refers to, or `None` if the register is null. Threads and
+    /// registers count from 0. Fails with `BadIndex` if the heap has no such thread or register.
     pub fn register(&self, thread: u32, register: u32) -> Result<Option<Handle<'a>>, Refusal>
         ensures { FindsEntry self.now (register_entry thread register) result }
     {
@@ -41,7 +41,7 @@ impl<'a> View<'a> {
         Ok(handle_of(self.heap, found))
     }
 
-    /// Returns the object that a global names, or `None` if the global is null. Globals count from 0. Refused as
+    /// Returns the object that a global refers to, or `None` if the global is null. Globals count from 0. Fails with
     /// `BadIndex` if the heap has no such global.
     pub fn global(&self, global: u32) -> Result<Option<Handle<'a>>, Refusal>
         ensures { FindsEntry self.now (global_entry global) result }

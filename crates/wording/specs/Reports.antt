@@ -15,18 +15,18 @@ unfoldable pub texts_from : {X : Type 0} → (ℕ → X → List ℕ) → ℕ �
 texts_from f i [] = []
 texts_from f i (x ∷ xs) = f i x ++ texts_from f (i + 1) xs
 
--- the first line: the phase, the clean NMT bit, the births, the used frames of all
+-- the first line: the phase, the clean NMT bit, the births, and how many of the frames are used
 abbrev pub head_line : Phase → Bool → ℕ → ℕ → ℕ → List ℕ
 head_line phase nmt births used frames =
     codes "phase " ++ phase_text phase ++ codes " nmt " ++ bit_text nmt ++ codes " births " ++ decimal births
     ++ codes " frames " ++ decimal used ++ codes "/" ++ decimal frames
 
--- how many entries of a protected page's side array are copied, of how many; nothing for another page
+-- how many of the entries of a protected page's forwarding table are copied; empty for another page
 abbrev pub copies_text : Option Copies → List ℕ
 copies_text None = []
 copies_text (Some c) = codes " copied " ++ decimal c.copied ++ codes "/" ++ decimal c.entries
 
--- how many objects start in a page, how many of them live, and the page's copies
+-- how many objects start in a page, how many of them are live, and the page's copies
 abbrev pub counts_text : ℕ → ℕ → Option Copies → List ℕ
 counts_text objects live copies =
     codes " objects " ++ decimal objects ++ codes " live " ++ decimal live ++ copies_text copies
@@ -37,15 +37,15 @@ page_line number p objects live copies =
     codes "page " ++ decimal number ++ codes " " ++ page_state_text p.state ++ codes " frame " ++ frame_text p.frame
     ++ codes " top " ++ decimal p.top ++ counts_text objects live copies
 
--- the number of register r and what it holds
+-- the number of register r and its reference
 abbrev pub register_text : ℕ → ℕ → Option (ℕ × Bool) → List ℕ
 register_text page_words r w = codes " r" ++ decimal r ++ codes " " ++ word_text page_words w
 
--- that of all registers
+-- the same for all registers
 abbrev pub registers_text : ℕ → List (Option (ℕ × Bool)) → List ℕ
 registers_text page_words ws = texts_from (register_text page_words) 0 ws
 
--- the name of what a thread does
+-- the name of a thread's activity
 abbrev pub activity_text : Activity → List ℕ
 activity_text activities.Parked = codes "parked"
 activity_text activities.Loading = codes "loading"
@@ -70,7 +70,7 @@ cycle_line k live retired =
 abbrev pub heals_text : ℕ → ℕ → List ℕ
 heals_text healed changed = codes " healed " ++ decimal healed ++ codes " changed " ++ decimal changed
 
--- the line of what the loads of thread n have come to
+-- the line of the barrier counters of thread n
 abbrev pub barrier_line : ℕ → Tally → List ℕ
 barrier_line n y =
     codes "barrier " ++ decimal n ++ codes " loads " ++ decimal y.loads ++ codes " gc " ++ decimal y.gc

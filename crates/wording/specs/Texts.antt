@@ -1,4 +1,4 @@
--- What a run prints.
+-- The text that a run prints.
 use Rattle.std.specs.Prelude.{ℕ, ◌/◌, ◌%◌, Bool, true, false, List, [], ◌∷◌, ◌++◌, Result, Ok, Err, codes, Option, Some}
 use Rattle.std.specs.Prelude.{None, ◌≡◌}
 use Rattle.std.specs.Fmt.{decimal}
@@ -46,30 +46,30 @@ answer_text (answers.Ended n m) = codes "ended live " ++ decimal n ++ codes " re
 answer_text (answers.Protected n m) = codes "protected objects " ++ decimal n ++ codes " targets " ++ decimal m
 answer_text (answers.Released n) = codes "released free " ++ decimal n
 
--- the text that parts are
+-- the text of an answer's parts
 abbrev pub parts_text : AnswerParts → List ℕ
 parts_text (parts.Word w) = w.now
 parts_text (parts.One w n) = w.now ++ decimal n
 parts_text (parts.Two w n v m) = w.now ++ decimal n ++ v.now ++ decimal m
 
--- the text of what a step said
+-- the text of a reply
 abbrev pub reply_text : Result Answer Refusal → List ℕ
 reply_text (Ok a) = answer_text a
 reply_text (Err r) = codes "refused " ++ refusal_text r
 
--- the text of what a step said behind another one
+-- the text of a reply after another one
 abbrev pub next_text : Result Answer Refusal → List ℕ
 next_text reply = codes ", " ++ reply_text reply
 
--- the texts of what a command's steps said, with a comma and a space between each two
+-- the texts of the replies to a command's steps, with a comma and a space between each two
 abbrev pub replies_text : List (Result Answer Refusal) → List ℕ
 replies_text replies = join_by reply_text (codes ", ") replies
 
--- the line of command n, of whose steps these are the replies
+-- the line of command n, with the replies to its steps
 abbrev pub line_text : ℕ → Actor → List (Result Answer Refusal) → List ℕ
 line_text n actor replies = decimal n ++ codes " " ++ actor_text actor ++ codes " " ++ replies_text replies ++ 10 ∷ []
 
--- the line of command n, a drain of so many steps
+-- the line of command n, a drain of `steps` steps
 abbrev pub drained_line : ℕ → Actor → ℕ → List ℕ
 drained_line n actor steps =
     decimal n ++ codes " " ++ actor_text actor ++ codes " drained " ++ decimal steps ++ 10 ∷ []
@@ -79,13 +79,13 @@ abbrev pub bit_text : Bool → List ℕ
 bit_text false = codes "0"
 bit_text true = codes "1"
 
--- the text of an address with its bit, where a page has so many words
+-- the text of an address with its bit, on pages of a number of words
 abbrev pub address_text : ℕ → Option ℕ → Bool → List ℕ
 address_text page_words None mark = codes "-"
 address_text page_words (Some a) mark =
     decimal (a / page_words) ++ codes "." ++ decimal (a % page_words) ++ codes "/" ++ bit_text mark
 
--- the text of a word, where a page has so many words
+-- the text of a reference, on pages of a number of words
 abbrev pub word_text : ℕ → Option (ℕ × Bool) → List ℕ
 word_text page_words w = address_text page_words (address_in w) (mark_in w)
 
@@ -105,17 +105,17 @@ page_state_text states.Closed = codes "closed"
 page_state_text states.From = codes "from"
 page_state_text states.Gone = codes "gone"
 
--- the number of a frame, or that there is none
+-- the number of a frame, or `-` for none
 abbrev pub frame_text : Option ℕ → List ℕ
 frame_text None = codes "-"
 frame_text (Some n) = decimal n
 
--- a buffer, or that there is none
+-- a buffer, or `-` for none
 abbrev pub buffer_text : Option Buffer → List ℕ
 buffer_text None = codes "-"
 buffer_text (Some b) = decimal b.page ++ codes "." ++ decimal b.next ++ codes "-" ++ decimal b.end
 
--- what stands in c, with rest behind it, is what stood in old with all behind it
+-- c with the rest appended is old with all appended
 abbrev pub Leads : Option (List ℕ) → Option (List ℕ) → List ℕ → List ℕ → Type 0
 Leads None c rest all = Unit {0}
 Leads (Some o) None rest all = ⊥

@@ -1,4 +1,4 @@
-//! What a run prints: the texts of actors, answers, refusals and the parts of a report.
+//! The text that a run prints: actors, answers, errors and the parts of a report.
 #![tactic(auto)]
 
 mod line;

@@ -11,7 +11,7 @@ use model::{Actor, Reply};
 use std::alloc::AllocError;
 use std::io;
 
-/// What a step says behind another one.
+/// Appends a reply after another one.
 fn put_next(text: &mut String, reply: &Reply) -> Result<(), AllocError>
     ensures { OnOk result (string_bytes text.new ≡ string_bytes text.old ++ next_text reply.now) }
 {
@@ -38,7 +38,7 @@ fn put_replies(text: &mut String, replies: &[Reply]) -> Result<(), AllocError>
     put_others(text, others)
 }
 
-/// Puts the head of a line: a command's number and its actor, with a space behind each.
+/// Appends the head of a line: a command's number and its actor, with a space after each.
 #[inline(always)]
 fn put_head(text: &mut String, number: u64, actor: Actor) -> Result<(), AllocError>
     ensures { OnOk result (string_bytes text.new
@@ -50,9 +50,8 @@ fn put_head(text: &mut String, number: u64, actor: Actor) -> Result<(), AllocErr
     text.push(' ')
 }
 
-/// Adds the line of a command to a text: its number, its actor, and what its steps said, with a
-/// comma and a space between each two. Where memory is refused, a beginning of the line may stand
-/// in the text.
+/// Appends the line of a command to a text: its number, its actor, and the replies to its steps, with a comma and a
+/// space between each two. Fails only if out of memory; the text may then end in a prefix of the line.
 pub fn put_line(
     text: &mut String,
     number: u64,
@@ -66,8 +65,8 @@ pub fn put_line(
     text.push('\n')
 }
 
-/// Adds the line of a drain to a text: its number, its actor, and how many steps were done. Where
-/// memory is refused, a beginning of the line may stand in the text.
+/// Appends the line of a drain to a text: its number, its actor, and how many steps were done. Fails only if out of
+/// memory; the text may then end in a prefix of the line.
 pub fn put_drained(
     text: &mut String,
     number: u64,
@@ -82,9 +81,8 @@ pub fn put_drained(
     text.push('\n')
 }
 
-/// Writes the line of a command. `text` is room that is used again: what it holds is lost. The
-/// error is the writer's, or want of memory; when a writer fails no clause can say, so a test shows
-/// that a line is written.
+/// Writes the line of a command. `text` is a buffer that is reused: its contents are lost. Fails if the writer fails,
+/// or if out of memory. No clause can say when a writer fails, so a test shows that a line is written.
 pub fn write_line<W: io::Write>(
     w: &mut W,
     text: &mut String,

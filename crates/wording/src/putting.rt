@@ -1,4 +1,4 @@
-//! Texts that are put at the end of a text, without a formatter.
+//! Appending to a text, without a formatter.
 
 ghost use Rattle.std.specs.Prelude.{◌≡◌, ◌++◌, ◌<◌, Err, OnOk, string_bytes};
 ghost use Rattle.std.specs.Fmt.{decimal};
@@ -10,7 +10,7 @@ use model::{Actor, Answer, Refusal, Reply};
 use std::alloc::AllocError;
 use std::fmt::Write as _;
 
-/// Puts a number below 10.
+/// Appends a number below 10.
 #[inline]
 #[tactic(auto, using(std::proofs::lemmas::Fmt::decimal_digit))]
 fn put_digit(text: &mut String, digit: u8) -> Result<(), AllocError>
@@ -20,7 +20,7 @@ fn put_digit(text: &mut String, digit: u8) -> Result<(), AllocError>
     text.push((b'0' + digit) as char)
 }
 
-/// Puts a number.
+/// Appends a number.
 #[inline]
 pub(crate) fn put_number(text: &mut String, number: u64) -> Result<(), AllocError>
     ensures { OnOk result (string_bytes text.new ≡ string_bytes text.old ++ decimal number) }
@@ -32,7 +32,7 @@ pub(crate) fn put_number(text: &mut String, number: u64) -> Result<(), AllocErro
     }
 }
 
-/// Puts a number of any length.
+/// Appends a number of any length.
 #[inline(never)]
 fn put_digits(text: &mut String, number: u64) -> Result<(), AllocError>
     ensures { OnOk result (string_bytes text.new ≡ string_bytes text.old ++ decimal number) }
@@ -40,7 +40,7 @@ fn put_digits(text: &mut String, number: u64) -> Result<(), AllocError>
     text.push_str(Buffer::new().format(number))
 }
 
-/// Puts an actor.
+/// Appends an actor.
 #[inline]
 pub(crate) fn put_actor(text: &mut String, actor: Actor) -> Result<(), AllocError>
     ensures { OnOk result (string_bytes text.new ≡ string_bytes text.old ++ actor_text actor) }
@@ -53,7 +53,7 @@ pub(crate) fn put_actor(text: &mut String, actor: Actor) -> Result<(), AllocErro
     put_number(text, u64::from(number))
 }
 
-/// Puts an answer.
+/// Appends an answer.
 pub(crate) fn put_answer(text: &mut String, answer: Answer) -> Result<(), AllocError>
     ensures { OnOk result (string_bytes text.new ≡ string_bytes text.old ++ answer_text answer) }
 {
@@ -72,7 +72,7 @@ pub(crate) fn put_answer(text: &mut String, answer: Answer) -> Result<(), AllocE
     }
 }
 
-/// Puts what a step said.
+/// Appends a reply.
 pub(crate) fn put_reply(text: &mut String, reply: &Reply) -> Result<(), AllocError>
     ensures { OnOk result (string_bytes text.new ≡ string_bytes text.old ++ reply_text reply.now) }
 {
@@ -82,7 +82,7 @@ pub(crate) fn put_reply(text: &mut String, reply: &Reply) -> Result<(), AllocErr
     }
 }
 
-/// Puts what a step says that is refused.
+/// Appends the reply of a rejected step.
 #[inline(never)]
 fn put_refusal(text: &mut String, refusal: Refusal) -> Result<(), AllocError>
     ensures { OnOk result (string_bytes text.new ≡ string_bytes text.old ++ reply_text (Err refusal)) }

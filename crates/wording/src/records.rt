@@ -6,7 +6,7 @@ use model::{Buffer, PageState, Phase};
 use refword::Word;
 use std::fmt;
 
-/// A reference word's text: `-` for null, else page, offset and NMT bit, as `1.12/0`.
+/// The text of a reference: `-` for null, else page, offset and NMT bit, as `1.12/0`.
 #[derive(Clone, Copy)]
 pub struct WordText {
     word: Word,
@@ -15,7 +15,7 @@ pub struct WordText {
 }
 
 impl WordText {
-    /// The text of a word, where a page has so many words.
+    /// Returns the text of a reference, on pages of `page_words` words.
     pub fn new(word: Word, page_words: u32) -> WordText
         requires { 0 < page_words }
         ensures word { result.word ≡ word }
@@ -126,7 +126,7 @@ impl fmt::Display for BufferText {
     }
 }
 
-/// How many entries of a side array are copied, of how many.
+/// How many of the entries of a forwarding table are copied.
 #[derive(Clone, Copy, Debug, PartialEq, Eq)]
 pub struct Copies {
     /// How many are copied.

@@ -1,4 +1,4 @@
-//! The lines of a report, each without its newline. All of it is ours.
+//! The lines of a report, each without its newline.
 
 ghost use Rattle.std.specs.Prelude.{◌≡◌, ◌++◌, ◌<◌};
 ghost use Rattle.std.specs.Fmt.{WritesOnOk};
@@ -30,17 +30,17 @@ impl fmt::Display for BitText {
     }
 }
 
-/// The first line: the collector's state, the births, and how many frames are used, as
+/// The first line: the phase, the clean NMT bit, the births, and how many of the frames are used, as
 /// `phase idle nmt 0 births 1 frames 1/4`.
 #[derive(Clone, Copy, Debug, PartialEq, Eq)]
 pub struct HeadLine {
-    /// Where the collector is in its cycle.
+    /// The phase of the collector's cycle.
     pub phase: Phase,
-    /// The NMT bit of words that are marked through.
+    /// The clean NMT bit.
     pub nmt: bool,
-    /// How many objects were born.
+    /// How many objects were allocated.
     pub births: u64,
-    /// How many frames a page owns.
+    /// How many frames are owned by a page.
     pub used: usize,
     /// How many frames there are.
     pub frames: usize,
@@ -72,13 +72,13 @@ pub struct PageLine {
     pub page: Page,
     /// How many objects start in it.
     pub objects: usize,
-    /// How many of them the last mark found to live.
+    /// How many of them the last mark found live.
     pub live: usize,
-    /// How many of those that live are copied, where the page is protected.
+    /// How many of the live ones are copied, if the page is protected.
     pub copies: Option<Copies>,
 }
 
-/// Writes how many objects start in a page and live, and its copies.
+/// Writes how many objects start in a page, how many of them are live, and its copies.
 fn write_counts<W: fmt::Write>(
     f: &mut fmt::Formatter<W>,
     objects: usize,
@@ -104,7 +104,7 @@ impl fmt::Display for PageLine {
     }
 }
 
-/// What registers hold, each behind a space and its number from 0, as ` r0 1.0/0 r1 -`.
+/// The references in registers, each after a space and its register's number from 0, as ` r0 1.0/0 r1 -`.
 #[derive(Clone, Copy)]
 pub struct RegistersText<'a> {
     words: &'a [Word],
@@ -113,7 +113,7 @@ pub struct RegistersText<'a> {
 }
 
 impl<'a> RegistersText<'a> {
-    /// The text of registers, where a page has so many words.
+    /// Returns the text of registers, on pages of `page_words` words.
     pub fn new(words: &'a [Word], page_words: u32) -> RegistersText<'a>
         requires { 0 < page_words }
         ensures words { result.words ≡ words.entry }
@@ -123,7 +123,7 @@ impl<'a> RegistersText<'a> {
     }
 }
 
-/// Writes a register's number and its word behind a space.
+/// Writes a space, a register's number and its reference.
 fn write_register<W: fmt::Write>(
     f: &mut fmt::Formatter<W>,
     number: usize,
@@ -148,14 +148,14 @@ impl<'a> fmt::Display for RegistersText<'a> {
     }
 }
 
-/// What a thread does.
+/// A thread's activity.
 #[derive(Clone, Copy, Debug, PartialEq, Eq)]
 pub enum Activity {
     /// It is parked.
     Parked,
-    /// It has a load that isn't finished.
+    /// It has an unfinished load.
     Loading,
-    /// Neither.
+    /// It does neither.
     Running,
 }
 
@@ -179,11 +179,11 @@ impl fmt::Display for Activity {
 pub struct ThreadLine<'a> {
     /// Its number, from 0.
     pub number: usize,
-    /// What it does.
+    /// Its activity.
     pub activity: Activity,
-    /// The buffer that it fills, if it has one.
+    /// Its buffer, if it has one.
     pub buffer: Option<Buffer>,
-    /// What its registers hold.
+    /// The references in its registers.
     pub registers: RegistersText<'a>,
 }
 
@@ -206,7 +206,7 @@ impl<'a> fmt::Display for ThreadLine<'a> {
 pub struct GlobalLine {
     /// Its number, from 0.
     pub number: usize,
-    /// Its word.
+    /// Its reference.
     pub word: WordText,
 }
 
@@ -245,13 +245,12 @@ impl fmt::Display for CycleLine {
     }
 }
 
-/// The line of what a thread's loads have come to, as
-/// `barrier 0 loads 1 gc 1 nmt 0 healed 1 changed 0`.
+/// The line of a thread's barrier counters, as `barrier 0 loads 1 gc 1 nmt 0 healed 1 changed 0`.
 #[derive(Clone, Copy, Debug, PartialEq, Eq)]
 pub struct BarrierLine {
     /// The thread's number, from 0.
     pub number: usize,
-    /// What they have come to.
+    /// Its barrier counters.
     pub tally: Tally,
 }
 

@@ -1,4 +1,4 @@
-//! The texts of actors, answers, refusals, and of what steps said.
+//! The texts of actors, answers, errors and replies.
 
 ghost use Rattle.std.specs.Prelude.{◌≡◌};
 ghost use Rattle.wording.specs.Texts.{answer_text, parts_text};
@@ -28,7 +28,7 @@ impl fmt::Display for ActorText {
 #[derive(Clone, Copy, Debug, PartialEq, Eq)]
 pub struct AnswerText(pub Answer);
 
-/// The text of an answer in its parts: words, and a number behind each of them.
+/// The text of an answer in its parts: words, each with a number after it.
 pub(crate) enum AnswerParts {
     /// A word alone.
     Word(&'static str),
@@ -39,7 +39,7 @@ pub(crate) enum AnswerParts {
 }
 
 impl AnswerParts {
-    /// The parts of an answer's text.
+    /// Returns the parts of an answer's text.
     pub(crate) fn of(answer: Answer) -> AnswerParts
         ensures { parts_text result ≡ answer_text answer }
     {
@@ -93,7 +93,7 @@ impl fmt::Display for AnswerText {
     }
 }
 
-/// The text of what a step said: its answer's, or `refused ` and its refusal's.
+/// The text of a reply: the answer's, or `refused ` and the error's.
 #[derive(Clone, Copy, Debug, PartialEq, Eq)]
 pub struct ReplyText(pub Reply);
 

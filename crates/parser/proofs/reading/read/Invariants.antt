@@ -6,7 +6,7 @@ use Rattle.parser.proofs.reading.read.Given as goal
 abbrev pub decreases-loop-line : goal.decreases-loop-line
 decreases-loop-line l = length l.rest
 
--- the lines left lead to the same
+-- the remaining lines lead to the same result
 abbrev pub invariant-loop-line : goal.invariant-loop-line
 invariant-loop-line l = record {
   rest : lines_in l.number l.reading (slice_split newline l.rest) ≡ script_in l.fn.bytes;

@@ -3,7 +3,7 @@ use Rattle.std.specs.List.{list_all}
 use Rattle.parser.specs.Words.{is_digit, capped_from}
 use Rattle.parser.proofs.words.short.Given as goal
 
--- the bytes before are digits, and those left lead to the same number
+-- the bytes before are digits, and the remaining ones lead to the same number
 abbrev pub invariant-loop-b : goal.invariant-loop-b
 invariant-loop-b l =
     record {

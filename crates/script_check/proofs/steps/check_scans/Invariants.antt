@@ -4,7 +4,7 @@ use Rattle.cycle.specs.Drains.{drain_within, verdict}
 use Rattle.cycle.proofs.WholeDrains.{IsLeft}
 use Rattle.script_check.proofs.steps.check_scans.Given as goal
 
--- the steps that are left lead to the same
+-- the remaining steps lead to the same
 abbrev pub invariant-loop : goal.invariant-loop
 invariant-loop l = IsLeft l.replies.items (l.most - l.counter) l.book l.worker
     (behind l.fn.replies.items (drain_within l.most l.fn.book l.worker))

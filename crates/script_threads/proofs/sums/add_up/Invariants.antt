@@ -2,7 +2,7 @@ use Rattle.std.proofs.Common.{◌≡◌, ◌≤◌, ◌*◌, ◌^◌, take}
 use Rattle.script_threads.specs.Settled.{births_in, data_in}
 use Rattle.script_threads.proofs.sums.add_up.Given as goal
 
--- the sums of the entries so far, of which each adds 1 at most, and less than 2^64
+-- the sums over the entries so far: each adds at most 1 birth, and less than 2^64 of data
 abbrev pub invariant-loop-index : goal.invariant-loop-index
 invariant-loop-index l = record {
   births : l.births ≡ births_in (take l.index l.list.entries);

@@ -4,7 +4,7 @@ use Rattle.std.specs.String.{string_bytes}
 use Rattle.wording.specs.Texts.{next_text}
 use Rattle.wording.proofs.line.put_others.Given as goal
 
--- what is put and what is left are the whole
+-- the texts of the replies so far and of the remaining ones are all texts
 abbrev pub invariant-loop-reply : goal.invariant-loop-reply
 invariant-loop-reply l = string_bytes l.text ++ flat_map next_text (drop l.reply-index l.replies)
     ≡ string_bytes l.initial.text ++ flat_map next_text l.replies

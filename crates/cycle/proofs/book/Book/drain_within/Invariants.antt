@@ -5,7 +5,7 @@ use Rattle.cycle.proofs.Begun.{LeadsOn}
 use Rattle.cycle.proofs.WholeDrains.{IsLeft}
 use Rattle.cycle.proofs.book.Book.drain_within.Given as goal
 
--- the steps that are left lead to the same, and what is a beginning from here on is one from the start
+-- the remaining steps lead to the same, and a beginning from here on is a beginning from the start
 abbrev pub invariant-loop : goal.invariant-loop
 invariant-loop l = record {
   left : IsLeft l.replies.items (l.most - l.counter) l.self l.worker

@@ -3,7 +3,7 @@ use Rattle.cycle.specs.Loads.{behind, trap_load}
 use Rattle.cycle.proofs.Begun.{LeadsOn}
 use Rattle.cycle.proofs.book.Book.trap_load.Given as goal
 
--- the traps that are left lead to the same, and what is a beginning from here on is one from the start
+-- the remaining traps lead to the same, and a beginning from here on is a beginning from the start
 abbrev pub invariant-loop : goal.invariant-loop
 invariant-loop l = record {
   steps : behind l.replies.items (trap_load (3 - l.counter) l.due l.self l.actor)

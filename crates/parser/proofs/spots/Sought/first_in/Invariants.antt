@@ -8,7 +8,7 @@ use Rattle.parser.proofs.spots.Sought.first_in.Given as goal
 abbrev pub decreases-loop-line : goal.decreases-loop-line
 decreases-loop-line l = length l.rest
 
--- the first of the lines that are left is the first of all
+-- the first of the remaining lines is the first of all
 abbrev pub invariant-loop-line : goal.invariant-loop-line
 invariant-loop-line l = record {
   rest : first_from l.self l.number (slice_split newline l.rest) ≡ first_spot l.self (slice_split newline l.fn.bytes);
