@@ -54,7 +54,6 @@ pub use gate::{thread_gate, worker_gate};
 pub use loading::{MOST_TRAPS, heal_is_due, is_clear, three_traps};
 pub use model::{Actor, Answer, Buffer, PageList, Reply, Step, Trap};
 pub use mutating::Mutating;
-pub use pages::has_twice;
 pub use relocate::PieceGate;
 pub use running::run;
 pub use stepping::Stepping;

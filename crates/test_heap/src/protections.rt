@@ -125,3 +125,32 @@ fn what_no_script_asks(rt: HostRuntime) -> Result<(), Fail> {
     refuses(&rt, rt.alloc(), new_heap(rt.alloc())?)?;
     Ok(())
 }
+
+/// The pages from 140 down to 1, and then one more.
+fn falling(alloc: Global, last: u32) -> Result<PageList, AllocError> {
+    let mut pages = Vec::with_capacity(alloc, 141)?;
+    for number in 0..140 {
+        pages.push(140 - number)?;
+    }
+    pages.push(last)?;
+    Ok(PageList::new(pages))
+}
+
+/// In a long list that doesn't rise, a page is found twice wherever it is, even if out of memory for noting pages.
+fn finds_twice(rt: &impl Abort, alloc: Global, heap: &mut impl Stepping) -> Result<(), Fail> {
+    for last in [1, 2, 70, 140] {
+        let step = Step::Protect(falling(alloc, last)?);
+        says(rt, heap, WORKER, step, Err(Refusal::BadIndex));
+    }
+    let once = Step::Protect(falling(alloc, 141)?);
+    says(rt, heap, WORKER, once, Err(Refusal::Unripe { page: 140 }));
+    Ok(())
+}
+
+#[test]
+fn pages_of_a_long_list(rt: HostRuntime) -> Result<(), Fail> {
+    let mut config = shared_by_two(rt.alloc())?;
+    config.pages = 200;
+    let mut heap = Heap::new(rt.alloc(), config)?;
+    finds_twice(&rt, rt.alloc(), &mut heap)
+}
