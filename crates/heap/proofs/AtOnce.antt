@@ -7,7 +7,7 @@ use Rattle.std.specs.Prelude.{nat_lt}
 use Rattle.std.specs.Option.{is_some}
 use Rattle.std.proofs.lemmas.Bool.{or_parts, leb-false}
 use Rattle.std.proofs.lemmas.Option.{slice_get_within, same_Some}
-use Rattle.refword.specs.Words.{IsAddress, IsBits, bits_of, address_in, number_in, read_word}
+use Rattle.refword.specs.Words.{IsAddress, bits_of, address_in, number_in, read_word}
 use Rattle.refword.proofs.Reading.{bits_of-read_word, read_word-is_word}
 use Rattle.layout.specs.Objects.{layout_of}
 use Rattle.model.specs.declared.records.Barrier.{Barrier}
@@ -78,20 +78,6 @@ let_at_once h t a None f there = absurd (cc)
 let_at_once h t a (Some x) f there = rw f refl
 
 -- ---- bits and numbers
-
--- bits with an address in them are a word's
-pub bits_where : (n k : ℕ) → k ≡ n % 2 ^ 63 → IsAddress k → n < 2 ^ 64 → IsBits n
-bits_where n k is a fits = record {
-  above = λ z. omega (arith, is, a.above);
-  below = omega (arith, is, a.below);
-  fits = fits;
-}
-
-pub null_bits : (n : ℕ) → n ≡ 0 → None ≡ read_reference n
-null_bits n e = rw e refl
-
-pub read_bits : (n : ℕ) (w : Reference) → read_word n ≡ Some w → w ≡ read_reference n
-read_bits n w e = sym (ap flat e)
 
 number_read : (n : ℕ) (v : ℕ × Bool) → read_word n ≡ Some (Some v) → v.0 ≡ n % 2 ^ 63
 number_read n (a, false) e =
@@ -275,17 +261,6 @@ held_at_once h t r x w k there runs closed is = record {
   closed = ap barrier_of there ∙ closed;
   there = register_there h t r x k there (slice_get_within x.registers r w is);
   word = register_where h t r x there ∙ ap flat is;
-}
-
--- a thread may load a reference of an object that a register of it names
-pub named_at_once : (h : HeapState) (t target object address : ℕ) (v w : Reference) → IsOpenTo h address
-    → HoldsAtOnce h t target v → HoldsAtOnce h t object w → address_in w ≡ Some address
-    → NamesAtOnce h t target object address
-unfolding usable
-named_at_once h t target object address v w free to from names = record {
-  passes = λ i. from.passes (steps.Load target object i) refl (rw (to.there, from.there) refl);
-  usable = ap (use_word h t) from.word ∙ used_where h t address w free names;
-  closed = from.closed;
 }
 
 -- ---- a load

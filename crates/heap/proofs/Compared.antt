@@ -1,5 +1,5 @@
 -- Two registers are compared by the numbers of their words.
-use Rattle.std.proofs.Common.{◌≡◌, ◌<◌, ℕ, nat_eq, Bool, true, false, Some, None, refl, ap, arith}
+use Rattle.std.proofs.Common.{◌≡◌, ◌<◌, ℕ, nat_eq, false, Some, None, refl, ap, arith}
 use Rattle.std.specs.Prelude.{Ok}
 use Rattle.std.proofs.lemmas.Bool.Decides.{nat_tests}
 use Rattle.refword.specs.Words.{IsWord, address_in, number_in}

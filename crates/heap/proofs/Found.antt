@@ -1,13 +1,13 @@
 -- Objects that were found: what a thread learns of one, and which steps leave it found.
-use Rattle.std.proofs.Common.{◌≡◌, ◌≢◌, ◌∙◌, ◌/◌, ◌%◌, ◌+◌, ◌<◌, ◌≤◌, ℕ, Bool, true, false, List, length, get_or, Option, Some, None}
+use Rattle.std.proofs.Common.{◌≡◌, ◌≢◌, ◌∙◌, ◌/◌, ◌%◌, ◌+◌, ◌<◌, ℕ, Bool, true, false, List, length, get_or, Option, Some, None}
 use Rattle.std.proofs.Common.{refl, sym, ap, subst, arith}
-use Rattle.std.specs.Prelude.{Ok, IfSome, slice_get, if◌then◌else◌}
+use Rattle.std.specs.Prelude.{slice_get, if◌then◌else◌}
 use Rattle.std.specs.Option.{option_and_then}
 use Rattle.std.proofs.lemmas.Option.{get_or_from_slice_get, slice_get_within, slice_get-get_or, same_Some}
 use Rattle.std.proofs.lemmas.Bool.{leb-false}
-use Rattle.refword.specs.Words.{address_in, bits_of}
+use Rattle.refword.specs.Words.{address_in}
 use Rattle.layout.specs.declared.shape.Layout.{Layout}
-use Rattle.layout.specs.Objects.{layout_of, size_of}
+use Rattle.layout.specs.Objects.{layout_of}
 use Rattle.model.specs.declared.records.Barrier.{Barrier}
 use Rattle.model.specs.declared.records.Counter.TheVariants as counters
 use Rattle.model.specs.declared.records.Place.TheVariants as places
@@ -28,7 +28,7 @@ use Rattle.page.specs.Usable.{usable_frame}
 use Rattle.page.specs.Whole.{IsWhole}
 use Rattle.page.proofs.Behind.{further_on, same_page}
 use Rattle.page.proofs.Untouched.{word_stays}
-use Rattle.page.proofs.Usable.{usable_unprotected, usable_word}
+use Rattle.page.proofs.Usable.{usable_unprotected}
 use Rattle.heap.specs.declared.heap.at_once.found.FoundObject.{FoundObject}
 use Rattle.heap.specs.AtOnce.{HoldsAtOnce, IsOnFrame, IsOpenTo, IsQuiet, LoadsAtOnce, NamesAtOnce, UsesAtOnce}
 use Rattle.heap.specs.Found.{FindsObject}

@@ -12,14 +12,13 @@ use test_support_samples::shared_by_two;
 /// A heap whose calls are done at once.
 trait AtOnce: Mutating {
     /// Returns whether each call on the object in register 0 is done.
-    fn are_done(&mut self) -> [bool; 6];
+    fn are_done(&mut self) -> [bool; 5];
 }
 
 impl AtOnce for Heap {
-    fn are_done(&mut self) -> [bool; 6] {
+    fn are_done(&mut self) -> [bool; 5] {
         [
             self.store_at_once(0, 0, 0, 0),
-            self.load_at_once(0, 1, 0, 0),
             self.load_global_at_once(0, 1, 0),
             self.set_datum_at_once(0, 0, 0, 7),
             self.datum_at_once(0, 0, 0) == Some(7),
@@ -38,7 +37,7 @@ fn make(heap: &mut impl Mutating) -> Result<(), Refusal> {
 /// All calls on a new object are done.
 fn all_done(rt: &impl Abort, mut heap: impl AtOnce + Drop) {
     same(rt, make(&mut heap), Ok(()));
-    same(rt, heap.are_done(), [true; 6]);
+    same(rt, heap.are_done(), [true; 5]);
 }
 
 #[test]

@@ -7,10 +7,8 @@ mod words;
 ghost use Rattle.std.specs.Prelude.{◌≡◌, true, false, None, IfSome};
 ghost use Rattle.model.specs.declared.records.Barrier.{Barrier};
 ghost use Rattle.model.specs.declared.records.Counter.TheVariants as counters;
-ghost use Rattle.model.specs.References.{read_reference};
 ghost use Rattle.model.specs.Loads.{barrier_of_thread, with_barrier, with_loaded};
 ghost use Rattle.heap.specs.AtOnce.{HoldsAtOnce, IsOnFrame, IsOpenTo, IsQuiet, mark_is_due};
-ghost use Rattle.heap.specs.AtOnce.{MayLoadAtOnce, NamesAtOnce, ReadsAtOnce};
 ghost use Rattle.heap.specs.AtOnce.{GivesDatum, GivesSame, MayDoAtOnce, NamesHeader, SourceAtOnce, UsesAtOnce};
 ghost use Rattle.model.specs.declared.steps.Step.TheVariants as steps;
 
@@ -66,51 +64,6 @@ impl Heap {
         }
         let held = record.find_register(register)?;
         Some(held)
-    }
-
-    /// Returns the object that a register of a thread names, if the thread may load a reference of it into another
-    /// register. Threads and registers count from 0.
-    #[inline(always)]
-    fn named_at_once(&self, thread: u32, target: u32, object: u32) -> Option<Spot>
-        ensures names { IfSome result (λ s. NamesAtOnce self.now thread target object s.address) }
-        ensures frame { IfSome result (λ s. IsOnFrame self.now s.address s.frame) }
-    {
-        let _target = self.held_at_once(thread, target)?;
-        let word = self.held_at_once(thread, object)?;
-        let address = word.number();
-        let frame = self.frame_at_once(address)?;
-        Some(Spot { address, frame })
-    }
-
-    /// Returns the bits of a reference of an object, by the reference's number from 0, if it is on the object's page.
-    #[inline(always)]
-    fn bits_at_once(&self, spot: &Spot, field: u32) -> Option<u64>
-        requires { IsOnFrame self.now spot.now.address spot.now.frame }
-        ensures { IfSome result (λ b. ReadsAtOnce self.now spot.now.address field (read_reference b)) }
-    {
-        let ahead = self.field_on(spot, field)?;
-        let bits = self.word_on(spot, ahead)?;
-        Some(bits)
-    }
-
-    /// Loads a reference field of an object into a register, completely, if no test rejects it and no trap is due: it
-    /// then does what `Load` and `Finish` do, and returns true. Else nothing is done.
-    #[inline(always)]
-    pub fn load_at_once(&mut self, thread: u32, target: u32, object: u32, field: u32) -> bool
-        ensures { MayLoadAtOnce result self.old thread (steps.Load target object field) self.new }
-    {
-        self.law();
-        let Some(spot) = self.named_at_once(thread, target, object) else {
-            return false;
-        };
-        let Some(bits) = self.bits_at_once(&spot, field) else {
-            return false;
-        };
-        let Some(word) = self.quiet_word(bits) else {
-            return false;
-        };
-        self.read_into(thread, target, word);
-        true
     }
 
     /// Writes a word that was loaded to a register of a thread whose barrier isn't open.

@@ -97,7 +97,8 @@ impl Heap {
         Some(header)
     }
 
-    /// Returns the word of these bits, if it is null, or no trap is due for it, as `quiet_word` does.
+    /// Returns the word of these bits, if it is null, or no trap is due for it, whichever thread loads it: it is on a
+    /// page that has memory and isn't protected, and needs no marking.
     #[inline(always)]
     fn find_quiet_word(&self, bits: u64) -> Option<Word>
         requires { IsRecorded self.now.store (bits % 2 ^ 63) }
@@ -128,7 +129,8 @@ impl Heap {
         Some(words[memory.offset_on(found.address) + ahead])
     }
 
-    /// Loads a reference of an object that was found into a register, as `load_at_once` does.
+    /// Loads a reference of an object that was found into a register, completely, if no test rejects it and no trap
+    /// is due: it then does what `Load` and `Finish` do, and returns true. Else nothing is done.
     #[inline(always)]
     pub fn load_found(
         &mut self,

@@ -43,24 +43,6 @@ impl Heap {
         self.store.recorded_usable_frame(number)
     }
 
-    /// Returns the word of these bits, if it is null, or no trap is due for it, whichever thread loads it: it is on a
-    /// page that has memory and isn't protected, and needs no marking.
-    #[inline(always)]
-    pub(super) fn quiet_word(&self, bits: u64) -> Option<Word>
-        ensures word { IfSome result (λ w. w ≡ read_reference bits) }
-        ensures quiet { IfSome result (IsQuiet self.now) }
-    {
-        if bits == 0 {
-            return Some(Word::null());
-        }
-        let _frame = self.frame_at_once(number_of_bits(bits))?;
-        let word = Word::of_bits(bits);
-        if self.mark_is_due(word) {
-            return None;
-        }
-        Some(word)
-    }
-
     /// Returns the word less than 2^17 words after an object's address, if it is on the same page.
     #[inline(always)]
     pub(super) fn word_on(&self, spot: &Spot, ahead: u64) -> Option<u64>

@@ -1,8 +1,5 @@
-use Rattle.std.proofs.Common.{◌≡◌, ◌∙◌, ◌/◌, ◌%◌, ◌+◌, Some, ap, subst, sym}
-use Rattle.std.specs.Option.{option_and_then}
-use Rattle.std.specs.List.{slice_get}
-use Rattle.std.proofs.lemmas.Option.{slice_get-get_or}
-use Rattle.model.specs.Stores.{StoreState, words_at, word_at}
+use Rattle.std.proofs.Common.{◌≡◌, ◌/◌, ◌%◌, Some, subst}
+use Rattle.model.specs.Stores.{StoreState, words_at}
 use Rattle.heap.proofs.Found.{read_within, word_within}
 use Rattle.heap.proofs.heap.Heap.word_of.Goals as goal
 
