@@ -1,0 +1,67 @@
+//! Pages that are filled with objects, of which each second one lives.
+
+use anyhow::Result;
+use pauseless::{Config, Layout, Layouts, ManagedHeap, Mutating, Refusal};
+use std::alloc::Global;
+
+/// The one thread.
+const ME: u32 = 0;
+
+/// The register of the list of what lives.
+const KEPT: u32 = 0;
+
+/// The register of a new object.
+const NEW: u32 = 1;
+
+/// A new object is put before the list, to which all of its references lead, so many.
+fn keep(heap: &mut impl Mutating, refs: u32) -> Result<(), Refusal> {
+    heap.new_object(ME, NEW, 0)?;
+    for field in 0..refs {
+        heap.store(ME, NEW, field, KEPT)?;
+    }
+    heap.copy_register(ME, KEPT, NEW)
+}
+
+/// So many objects that live are made in the buffer that is there, and as many that don't.
+fn make(heap: &mut impl Mutating, count: u32, refs: u32) -> Result<(), Refusal> {
+    for _ in 0..count {
+        keep(heap, refs)?;
+        heap.new_object(ME, NEW, 0)?;
+    }
+    Ok(())
+}
+
+/// So many pages of so many words are filled, each with so many objects that live, and as many that don't. An
+/// object has so many references.
+pub fn fill(
+    heap: &mut impl Mutating,
+    words: u32,
+    pages: u32,
+    count: u32,
+    refs: u32,
+) -> Result<(), Refusal> {
+    for _ in 0..pages {
+        heap.take(ME, words)?;
+        make(heap, count, refs)?;
+        heap.give_back(ME)?;
+    }
+    heap.clear_register(ME, NEW)
+}
+
+/// Objects of a size of 2 to 1,025 words, with one reference and data.
+pub fn narrow(size: u32) -> Result<Layout> {
+    let nums = u16::try_from(size.saturating_sub(2).min(1_023))?;
+    Ok(Layout { refs: 1, nums })
+}
+
+/// Objects of a size of 2 to 1,024 words, with references alone.
+pub fn wide(size: u32) -> Result<Layout> {
+    let refs = u16::try_from(size.saturating_sub(1).clamp(1, 1_023))?;
+    Ok(Layout { refs, nums: 0 })
+}
+
+/// A heap of so many frames of so many words, with objects of this layout.
+pub fn new_heap(alloc: Global, words: u32, frames: u32, layout: Layout) -> Result<ManagedHeap> {
+    let layouts = Layouts::new(vec![in alloc; layout]?);
+    Ok(ManagedHeap::new(alloc, Config::new(words, frames, layouts))?)
+}
