@@ -1,5 +1,5 @@
-//! Steps of one actor, by a book, by a seat, or under the lock. Nothing is promised here: a loop that
-//! held a book or a seat itself would carry all that each of its steps promises through its proof.
+//! Steps of one actor, by a book, by a seat, or under the lock, by a trait without contracts: a loop over a book or a
+//! seat itself would carry each step's contract through its proof.
 
 use anyhow::{Result, bail};
 use bench_support::{Lap, since};
@@ -13,7 +13,7 @@ use std::time::{Clock, Instant};
 
 /// One actor that does steps.
 pub trait Acting {
-    /// Whether a step is accepted.
+    /// Does a step, and returns whether it is accepted.
     fn accepts(&mut self, step: Step) -> bool;
 }
 
@@ -24,7 +24,7 @@ impl Acting for Book {
     }
 }
 
-/// An actor that isn't told which kind of step it is asked for.
+/// An actor for which the kind of a step is unknown at the call.
 #[derive(Drop)]
 struct AnyKind<A> {
     actor: A,
@@ -67,7 +67,7 @@ impl<R: Wait> Acting for Sharing<'_, '_, R> {
     }
 }
 
-/// A register is copied so often. Gives how many of these steps were accepted.
+/// Copies a register `count` times. Returns how many of these steps were accepted.
 pub fn copy_registers(actor: &mut impl Acting, count: u32) -> u64 {
     let (target, source) = (1, 0);
     let mut done = 0u64;
@@ -77,7 +77,7 @@ pub fn copy_registers(actor: &mut impl Acting, count: u32) -> u64 {
     done
 }
 
-/// What a book of so many threads is made with.
+/// Configures a book of N threads.
 pub fn config(alloc: Global, threads: u32) -> Result<Config> {
     let layouts = Layouts::new(vec![in alloc; Layout { refs: 1, nums: 1 }]?);
     let mut config = Config::new(16, 2, layouts);
@@ -86,7 +86,7 @@ pub fn config(alloc: Global, threads: u32) -> Result<Config> {
     Ok(config)
 }
 
-/// A book that threads share, and its seats.
+/// Opens a book that threads share, with its seats.
 pub fn opened(alloc: Global, config: Config) -> Result<(Shared, Vec<Seat>)> {
     match Shared::open(alloc, Book::new(alloc, config)?).ok() {
         Some(opened) => Ok(opened),
@@ -94,7 +94,7 @@ pub fn opened(alloc: Global, config: Config) -> Result<(Shared, Vec<Seat>)> {
     }
 }
 
-/// So many steps of an actor, timed under a name.
+/// Does `count` steps of an actor, timed under a name.
 fn timed(
     clock: &impl Clock,
     alloc: Global,
@@ -108,19 +108,19 @@ fn timed(
     Ok(vec![in alloc; Lap::once(name, done, nanos)]?)
 }
 
-/// So many steps by `Book::act`.
+/// Does `count` steps by `Book::act`.
 pub fn by_book(clock: &impl Clock, alloc: Global, count: u32) -> Result<Vec<Lap>> {
     let book = Book::new(alloc, config(alloc, 1)?)?;
     timed(clock, alloc, "act", book, count)
 }
 
-/// The same where the kind of step isn't known at the call.
+/// Does the same with the kind of step unknown at the call.
 pub fn by_any_kind(clock: &impl Clock, alloc: Global, count: u32) -> Result<Vec<Lap>> {
     let actor = Book::new(alloc, config(alloc, 1)?)?;
     timed(clock, alloc, "any", AnyKind { actor }, count)
 }
 
-/// So many steps by `Seat::act`.
+/// Does `count` steps by `Seat::act`.
 pub fn by_seat(clock: &impl Clock, alloc: Global, count: u32) -> Result<Vec<Lap>> {
     let (shared, mut seats) = opened(alloc, config(alloc, 1)?)?;
     seats.reverse();

@@ -1,4 +1,4 @@
-//! Threads that add to a number under a lock: what a lock costs where next to nothing is done under it.
+//! Threads that add to a number under a lock: the cost of the lock itself.
 
 use anyhow::Result;
 use bench_support::{Lap, since};
@@ -8,7 +8,7 @@ use std::thread;
 use std::thread::Threads;
 use std::time::{Clock, Instant};
 
-/// Adds to a number so often.
+/// Adds to a number `count` times.
 fn add<R: Wait>(rt: &R, number: &Mutex<u64>, count: u32) {
     for _ in 0..count {
         let mut number = number.lock(rt);
@@ -16,7 +16,7 @@ fn add<R: Wait>(rt: &R, number: &Mutex<u64>, count: u32) {
     }
 }
 
-/// So many threads add to a number so often each. Gives the number.
+/// N threads add to a number, `count` times each. Returns the number.
 fn added<R: Threads + Wait + Sync>(
     rt: &R,
     alloc: Global,
@@ -44,7 +44,7 @@ fn added<R: Threads + Wait + Sync>(
     Ok(number.into_inner())
 }
 
-/// So many threads add to a number so often each.
+/// N threads add to a number, `count` times each, timed.
 pub fn counts<R: Threads + Wait + Clock + Sync>(
     rt: &R,
     alloc: Global,

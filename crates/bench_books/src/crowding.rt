@@ -11,7 +11,7 @@ use std::thread;
 use std::thread::Threads;
 use std::time::{Clock, Instant};
 
-/// The seats of threads.
+/// Returns the seats of threads.
 fn of_threads(alloc: Global, seats: Vec<Seat>) -> Result<Vec<Seat>, AllocError> {
     let mut found = Vec::with_capacity(alloc, seats.len())?;
     for seat in seats {
@@ -22,7 +22,7 @@ fn of_threads(alloc: Global, seats: Vec<Seat>) -> Result<Vec<Seat>, AllocError> 
     Ok(found)
 }
 
-/// So many steps of each seat, each in a thread of its own. Gives how many were accepted.
+/// Does `count` steps of each seat, in a thread for each. Returns how many were accepted.
 fn all<R: Threads + Wait + Sync>(
     rt: &R,
     alloc: Global,
@@ -46,7 +46,7 @@ fn all<R: Threads + Wait + Sync>(
     })
 }
 
-/// The threads of these seats do so many steps each.
+/// The threads of these seats do `count` steps each, timed.
 fn timed<R: Threads + Wait + Clock + Sync>(
     rt: &R,
     alloc: Global,
@@ -61,7 +61,7 @@ fn timed<R: Threads + Wait + Clock + Sync>(
     Ok(Lap::once("steps", done, nanos))
 }
 
-/// So many threads do so many steps each on a new book.
+/// N threads do `count` steps each on a new book.
 fn lap<R: Threads + Wait + Clock + Sync>(
     rt: &R,
     alloc: Global,
@@ -72,7 +72,7 @@ fn lap<R: Threads + Wait + Clock + Sync>(
     timed(rt, alloc, &shared, seats, count)
 }
 
-/// So many threads do so many steps each by `Shared::step`.
+/// N threads do `count` steps each by `Shared::step`.
 pub fn steps<R: Threads + Wait + Clock + Sync>(
     rt: &R,
     alloc: Global,

@@ -1,4 +1,4 @@
-//! A cycle by workers beside two threads.
+//! A cycle by workers, alongside two threads.
 
 use crate::gate::Watch;
 use anyhow::{Result, bail};
@@ -17,7 +17,7 @@ const WORDS: u32 = 4_096;
 /// The objects of a page, of 2 words each, in pairs.
 const PAIRS: u32 = 1_024;
 
-/// So many pairs of objects are put before a list, in a buffer of a page, which has room for them.
+/// The commands that put `pairs` pairs of objects in front of a list, in a buffer of a page.
 fn links(alloc: Global, pairs: u32) -> Result<String, AllocError> {
     if pairs == 0 {
         return Ok(String::new(alloc));
@@ -28,7 +28,7 @@ fn links(alloc: Global, pairs: u32) -> Result<String, AllocError> {
     )
 }
 
-/// A list of so many pairs of objects is made, in a global.
+/// Appends the commands that make a list of `pairs` pairs of objects, in a global.
 fn list(text: &mut String, alloc: Global, global: u32, pairs: u32) -> Result<(), AllocError> {
     let full = links(alloc, PAIRS)?;
     text.push_str("t0 clear r0\n")?;
@@ -40,7 +40,7 @@ fn list(text: &mut String, alloc: Global, global: u32, pairs: u32) -> Result<(),
     text.push_str(store.as_str())
 }
 
-/// The heap line and the layout line. There are frames for all objects, and as many for their copies.
+/// The lines of the heap and of its layout. It has frames for all objects, and as many for their copies.
 fn head(alloc: Global, workers: u32, lists: u32, pairs: u32) -> Result<String, AllocError> {
     let pages = lists.wrapping_mul(pairs / PAIRS + 1);
     let frames = pages.wrapping_mul(2).wrapping_add(8).min(4_096);
@@ -50,7 +50,7 @@ fn head(alloc: Global, workers: u32, lists: u32, pairs: u32) -> Result<String, A
     )
 }
 
-/// The script of a cycle beside two threads.
+/// The script of a cycle alongside two threads.
 fn script(alloc: Global, numbers: [u32; 4]) -> Result<String, AllocError> {
     let [workers, lists, pairs, beside] = numbers;
     let mut text = head(alloc, workers, lists, pairs)?;
@@ -64,7 +64,7 @@ fn script(alloc: Global, numbers: [u32; 4]) -> Result<String, AllocError> {
     Ok(text)
 }
 
-/// A script that has been read.
+/// Parses a script.
 fn read(alloc: Global, text: &str) -> Result<Script> {
     match parse(alloc, text.as_bytes()) {
         Ok(script) => Ok(script),
@@ -72,13 +72,12 @@ fn read(alloc: Global, text: &str) -> Result<Script> {
     }
 }
 
-/// A time.
+/// Reads a time.
 fn told(time: &AtomicU64) -> u64 {
     time.load(Ordering::SeqCst)
 }
 
-/// What was timed; and, in place of a time, how many references had been loaded beside the cycle when it
-/// ended.
+/// What was timed; and, in place of a time, how many references had been loaded when the cycle ended.
 fn laps<R>(alloc: Global, watch: &Watch<'_, R>, objects: u64, loads: u64) -> Result<Vec<Lap>> {
     let began = told(&watch.began);
     let mark = told(&watch.marked).saturating_sub(began);
@@ -90,7 +89,7 @@ fn laps<R>(alloc: Global, watch: &Watch<'_, R>, objects: u64, loads: u64) -> Res
     ]?)
 }
 
-/// Whether a script is done by threads, as a gate watches.
+/// Runs a script by threads with a gate. Returns whether that has succeeded.
 fn is_done<R: Threads + Wait + Clock + Sync>(
     rt: &R,
     alloc: Global,
@@ -100,7 +99,7 @@ fn is_done<R: Threads + Wait + Clock + Sync>(
     by_threads(rt, alloc, script, watch).err().is_none()
 }
 
-/// A cycle on so many lists, timed, of so many objects in all, beside so many loads.
+/// Times a cycle. The counts are those of all objects, and of all loads alongside.
 fn timed<R: Threads + Wait + Clock + Sync>(
     rt: &R,
     alloc: Global,
@@ -116,8 +115,8 @@ fn timed<R: Threads + Wait + Clock + Sync>(
     laps(alloc, &watch, objects, loads)
 }
 
-/// A cycle of so many workers on so many lists of so many pairs of objects each, beside two threads that
-/// load a reference so often each.
+/// Times a cycle. The numbers are those of workers, of lists, of pairs of objects of each list, and of the loads of
+/// each thread alongside.
 pub fn cycle<R: Threads + Wait + Clock + Sync>(
     rt: &R,
     alloc: Global,

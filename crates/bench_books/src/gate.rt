@@ -6,8 +6,8 @@ use std::sync::atomic::{AtomicU64, Ordering};
 use std::thread;
 use std::time::{Clock, Instant};
 
-/// A gate that holds worker 0 and thread 1 until thread 0 has made its lists, and notes when the cycle
-/// begins and when its parts have ended.
+/// A gate at which worker 0 and thread 1 wait until thread 0 has made its lists. It notes when the cycle begins and
+/// when its parts end.
 #[derive(Drop)]
 pub struct Watch<'a, R> {
     clock: &'a R,
@@ -20,14 +20,14 @@ pub struct Watch<'a, R> {
     pub beside: AtomicU64,
     /// The same when the cycle had ended.
     pub met: AtomicU64,
-    /// When the mark began, when it had ended, and when the last page was released, in nanoseconds.
+    /// When the mark began, when it ended, and when the last page was released, in nanoseconds.
     pub began: AtomicU64,
     pub marked: AtomicU64,
     pub ended: AtomicU64,
 }
 
 impl<'a, R: Clock> Watch<'a, R> {
-    /// A gate for so many lists, before anything is done.
+    /// A gate for this many lists, before the run.
     pub fn new(clock: &'a R, start: Instant, lists: u64) -> Watch<'a, R> {
         Watch {
             clock,
@@ -42,7 +42,7 @@ impl<'a, R: Clock> Watch<'a, R> {
         }
     }
 
-    /// Nanoseconds since the start; 0 where the clock can't be read.
+    /// Nanoseconds since the start, or 0 if the clock fails.
     fn now(&self) -> u64 {
         match self.start.elapsed(self.clock) {
             Ok(took) => u64::try_from(took.as_nanos()).unwrap_or(u64::MAX),
@@ -50,7 +50,7 @@ impl<'a, R: Clock> Watch<'a, R> {
         }
     }
 
-    /// Whether all lists are made.
+    /// Returns whether all lists are made.
     fn is_ready(&self) -> bool {
         self.made.load(Ordering::SeqCst) >= self.lists
     }
@@ -65,7 +65,7 @@ impl<'a, R: Clock> Watch<'a, R> {
         }
     }
 
-    /// Notes the time of now.
+    /// Notes the current time.
     fn note(&self, time: &AtomicU64) {
         time.store(self.now(), Ordering::SeqCst);
     }

@@ -1,4 +1,4 @@
-//! Steps of each kind, each alone: a hold of the lock is one step or one look and nothing else.
+//! Steps of each kind, each timed alone: the lock is held for one step or one look at a time.
 
 use crate::looking::{chosen, look_all, look_at_fields, todo_left};
 use crate::timing::{Steps, THREAD, Timed, Timing, WORKER};
@@ -11,7 +11,7 @@ use std::alloc::Global;
 use std::thread::Threads;
 use std::time::Clock;
 
-/// What a heap has.
+/// The size of a heap.
 #[derive(Clone, Copy)]
 struct Size {
     /// The words of a page.
@@ -24,17 +24,17 @@ struct Size {
     linked: u32,
 }
 
-/// A step of the thread.
+/// Does a step of the thread.
 fn step(held: &mut impl Timing, name: &'static str, step: Step) -> Result<()> {
     held.step(name, THREAD, step)
 }
 
-/// A step of the worker.
+/// Does a step of the worker.
 fn work(held: &mut impl Timing, name: &'static str, step: Step) -> Result<()> {
     held.step(name, WORKER, step)
 }
 
-/// A page is filled with objects of layout 0.
+/// Fills a page with objects of layout 0.
 fn fill(held: &mut impl Timing, size: Size) -> Result<()> {
     step(held, "Take", Step::Take(size.words))?;
     for _ in 0..size.objects {
@@ -44,7 +44,7 @@ fn fill(held: &mut impl Timing, size: Size) -> Result<()> {
     step(held, "GiveBack", Step::GiveBack)
 }
 
-/// Pages are filled with objects that live: they are born while a mark runs.
+/// Fills pages with live objects: they are allocated during a mark.
 fn fill_all(held: &mut impl Timing, size: Size) -> Result<()> {
     work(held, "StartMark", Step::StartMark)?;
     step(held, "Cross", Step::Cross)?;
@@ -55,7 +55,7 @@ fn fill_all(held: &mut impl Timing, size: Size) -> Result<()> {
     work(held, "EndMark", Step::EndMark)
 }
 
-/// One more object is put before a list.
+/// Puts an object in front of a list.
 fn link(held: &mut impl Timing) -> Result<()> {
     let (target, layout, object, field, source) = (1, 1, 1, 0, 0);
     step(held, "New", Step::New { target, layout })?;
@@ -69,7 +69,7 @@ fn link(held: &mut impl Timing) -> Result<()> {
     step(held, "CopyReg", Step::CopyReg { target, source })
 }
 
-/// A list is made, in global 0; it is the one live thing behind the next mark.
+/// Makes a list, in global 0; after the next mark it alone is live.
 fn link_all(held: &mut impl Timing, size: Size) -> Result<()> {
     let (global, source) = (0, 0);
     step(held, "ClearReg", Step::ClearReg(0))?;
@@ -81,7 +81,7 @@ fn link_all(held: &mut impl Timing, size: Size) -> Result<()> {
     step(held, "StoreGlobal", Step::StoreGlobal { global, source })
 }
 
-/// An object is born all of whose references are to the list, and they are looked at.
+/// Allocates an object all of whose references lead to the list, and looks at these.
 fn look_at_one(held: &mut impl Timing, alloc: Global, size: Size) -> Result<()> {
     let (target, layout, object, source) = (2, 2, 2, 0);
     let fields = fields_of(size.words);
@@ -100,7 +100,7 @@ fn look_at_one(held: &mut impl Timing, alloc: Global, size: Size) -> Result<()> 
     step(held, "ClearReg", Step::ClearReg(object))
 }
 
-/// The list is read once.
+/// Walks along the list.
 fn walk(held: &mut impl Timing, size: Size) -> Result<()> {
     let (target, object, field) = (0, 0, 0);
     for _ in 1..size.linked {
@@ -116,14 +116,14 @@ fn walk(held: &mut impl Timing, size: Size) -> Result<()> {
     Ok(())
 }
 
-/// A gate that holds no piece.
+/// A gate at which no piece waits.
 struct NoGate;
 
 impl PieceGate for NoGate {
     fn begin(&self, _piece: u32) {}
 }
 
-/// A page is copied by halves on threads, to a depth of 2.
+/// Copies a page by halves on threads, to a depth of 2.
 fn copy_by_halves<R: Threads + Sync>(rt: &R, held: &mut impl Timing, page: u32) -> Result<()> {
     let start = held.begin()?;
     let reply = held.book().copy_page_by(rt, 0, page, 2, &NoGate);
@@ -135,7 +135,7 @@ fn copy_by_halves<R: Threads + Sync>(rt: &R, held: &mut impl Timing, page: u32) 
     held.end(name, start)
 }
 
-/// A page is copied: one of an even number at once, another by halves on threads.
+/// Copies a page: one of an even number by one step, another by halves on threads.
 fn copy_page<R: Threads + Sync>(rt: &R, held: &mut impl Timing, page: u32) -> Result<()> {
     if page % 2 == 0 {
         work(held, "CopyPage", Step::CopyPage(page))
@@ -144,7 +144,7 @@ fn copy_page<R: Threads + Sync>(rt: &R, held: &mut impl Timing, page: u32) -> Re
     }
 }
 
-/// The pages that are chosen are protected, copied and released.
+/// Protects, copies and releases the chosen pages.
 fn move_all<R: Threads + Sync>(rt: &R, held: &mut impl Timing, alloc: Global) -> Result<()> {
     let pages = chosen(held, alloc)?;
     let named = Vec::from_slice(alloc, &pages)?;
@@ -158,7 +158,7 @@ fn move_all<R: Threads + Sync>(rt: &R, held: &mut impl Timing, alloc: Global) ->
     Ok(())
 }
 
-/// The object that is to be scanned next is picked and scanned, if there is one.
+/// Picks and scans the next grey object. Returns whether there is one.
 fn scan(held: &mut impl Timing, words: u32) -> Result<bool> {
     let Some((page, offset)) = todo_left(held, words)? else {
         return Ok(false);
@@ -169,7 +169,7 @@ fn scan(held: &mut impl Timing, words: u32) -> Result<bool> {
     Ok(true)
 }
 
-/// A mark, from its start to its end.
+/// Marks, from start to end.
 fn mark(held: &mut impl Timing, size: Size) -> Result<()> {
     work(held, "StartMark", Step::StartMark)?;
     step(held, "Cross", Step::Cross)?;
@@ -182,7 +182,7 @@ fn mark(held: &mut impl Timing, size: Size) -> Result<()> {
     work(held, "EndMark", Step::EndMark)
 }
 
-/// Pages are opened on frames that have been written before.
+/// Opens pages on frames that have been written before.
 fn take_again(held: &mut impl Timing, size: Size) -> Result<()> {
     for _ in 0..size.pages.min(20) {
         step(held, "Take of a used frame", Step::Take(size.words))?;
@@ -191,7 +191,7 @@ fn take_again(held: &mut impl Timing, size: Size) -> Result<()> {
     Ok(())
 }
 
-/// All steps that are timed.
+/// Does all steps.
 fn hold_all<R: Threads + Sync>(
     rt: &R,
     held: &mut impl Timing,
@@ -208,8 +208,7 @@ fn hold_all<R: Threads + Sync>(
     take_again(held, size)
 }
 
-/// The layout of objects of so many words, all of which are data but for the header, up to 1,023, and
-/// references.
+/// The layout of objects of this many words: a header, up to 1,023 words of data, and references.
 fn layout(words: u32) -> Layout {
     let fields = words.saturating_sub(1).min(2_046);
     let nums = fields.min(1_023);
@@ -219,14 +218,12 @@ fn layout(words: u32) -> Layout {
     }
 }
 
-/// How many references an object has of those that have many: as many as there may be, in at most half a
-/// page.
+/// How many references the object with many has: up to the largest number, in at most half a page.
 fn fields_of(words: u32) -> u32 {
     (words / 2).saturating_sub(1).min(1_023)
 }
 
-/// What a heap is made with, of so many frames of so many words: a layout of objects of a size, one of
-/// two words for a list, and one of many references.
+/// Configures a heap: a layout of objects of a size, one of two words for a list, and one of many references.
 fn config(alloc: Global, words: u32, frames: u32, size: u32) -> Result<Config> {
     let refs = u16::try_from(fields_of(words))?;
     let layouts = Layouts::new(vec![in alloc;
@@ -239,7 +236,7 @@ fn config(alloc: Global, words: u32, frames: u32, size: u32) -> Result<Config> {
     Ok(config)
 }
 
-/// All steps that are timed, on a book.
+/// Does and times all steps, on a book.
 fn held<R: Clock + Threads + Sync>(
     rt: &R,
     alloc: Global,
@@ -251,8 +248,8 @@ fn held<R: Clock + Threads + Sync>(
     Ok(timed.all()?)
 }
 
-/// Steps of each kind on a heap of so many frames of so many words, with so many pages full of live
-/// objects of a size, and a list of so many objects.
+/// Times steps of each kind. The numbers are the words of a page, the frames, the words of an object, the pages full of
+/// live ones, and the objects of a list.
 pub fn holds<R: Clock + Threads + Sync>(
     rt: &R,
     alloc: Global,

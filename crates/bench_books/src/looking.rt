@@ -1,4 +1,4 @@
-//! Looks at a heap, each of which is a hold of the lock.
+//! Looks at a heap, for each of which the lock is held.
 
 use crate::timing::Timing;
 use anyhow::{Result, bail};
@@ -10,8 +10,8 @@ use model::MOST_FIELDS;
 use refword::{Addr, Word};
 use std::alloc::Global;
 
-/// What a choice asks of one page after another: its live words, and where its objects would go. Gives
-/// how many targets these would be in.
+/// Reads what `choose` does of each page: its live words, and where its objects would go. Returns how many targets they
+/// need.
 fn look_at_pages(held: &mut impl Timing, pages: u32) -> Result<u64> {
     let mut packing = first_packing();
     for page in 1..=pages {
@@ -33,7 +33,7 @@ pub fn look_all(held: &mut impl Timing) -> Result<()> {
     Ok(())
 }
 
-/// What a field of an object names.
+/// Returns the address in a field of an object.
 fn field_of(heap: &Heap, object: Addr, field: u32) -> Option<Addr> {
     if field >= u32::from(MOST_FIELDS) {
         return None;
@@ -42,7 +42,7 @@ fn field_of(heap: &Heap, object: Addr, field: u32) -> Option<Addr> {
     Word::read(bits)?.addr()
 }
 
-/// A hint for what each of so many fields of an object names. Gives how many were taken.
+/// Pushes a hint for each of `fields` fields of an object. Returns how many were taken.
 fn hint_fields(heap: &Heap, hints: &mut HintSeat, object: Addr, fields: u32) -> u64 {
     let mut taken = 0u64;
     for field in 0..fields {
@@ -53,12 +53,12 @@ fn hint_fields(heap: &Heap, hints: &mut HintSeat, object: Addr, fields: u32) -> 
     taken
 }
 
-/// The object that a register of thread 0 names.
+/// Returns the address in a register of thread 0.
 fn object_in(heap: &Heap, register: u32) -> Option<Addr> {
     heap.threads().first()?.register(register).addr()
 }
 
-/// A look at all of so many fields of the object in a register, as a worker makes it for its hints.
+/// Looks at all fields of the object in a register, as a worker does for its hints.
 pub fn look_at_fields(
     held: &mut impl Timing,
     alloc: Global,
@@ -74,7 +74,7 @@ pub fn look_at_fields(
     held.end("a look at fields", start)
 }
 
-/// The pages that are chosen where all that are closed may be.
+/// Chooses pages, each closed one if possible.
 pub fn chosen(held: &mut impl Timing, alloc: Global) -> Result<Vec<u32>> {
     let start = held.begin()?;
     let _ = room(held.heap());
@@ -85,7 +85,7 @@ pub fn chosen(held: &mut impl Timing, alloc: Global) -> Result<Vec<u32>> {
     Ok(pages)
 }
 
-/// The page and the offset of the object that is to be scanned next.
+/// Returns the page and the offset of the next grey object.
 pub fn todo_left(held: &mut impl Timing, words: u32) -> Result<Option<(u32, u32)>> {
     let start = held.begin()?;
     let found = next_todo(held.heap());

@@ -14,15 +14,15 @@ pub const THREAD: Actor = Actor::Thread(0);
 /// The one worker of each heap.
 pub const WORKER: Actor = Actor::Worker(0);
 
-/// What is asked by steps.
+/// A book without contracts: a loop over a `Book` itself would carry each step's contract through its proof.
 pub trait Steps {
-    /// A step of an actor. A refused step changes nothing.
+    /// Does a step of an actor. A rejected step changes nothing.
     fn step(&mut self, actor: Actor, step: Step) -> Reply;
 
-    /// The heap as it stands.
+    /// Returns the heap.
     fn heap(&self) -> &Heap;
 
-    /// The book, which may be changed.
+    /// Returns the book, to be changed.
     fn book(&mut self) -> &mut Book;
 }
 
@@ -42,21 +42,21 @@ impl Steps for Book {
     }
 }
 
-/// Steps and looks that are timed, each under a name.
+/// Steps and looks, each timed under a name.
 pub trait Timing {
-    /// A step of an actor, timed; one that is refused under the name `refused`.
+    /// Does and times a step of an actor; one that is rejected counts as `refused`.
     fn step(&mut self, name: &'static str, actor: Actor, step: Step) -> Result<()>;
 
-    /// The moment before a look.
+    /// Returns the time before a look.
     fn begin(&self) -> io::Result<Instant>;
 
-    /// A look, or something else that was begun, has ended.
+    /// Ends a look, or something else that was begun.
     fn end(&mut self, name: &'static str, start: Instant) -> Result<()>;
 
-    /// The heap as it stands.
+    /// Returns the heap.
     fn heap(&self) -> &Heap;
 
-    /// The book, which may be changed.
+    /// Returns the book, to be changed.
     fn book(&mut self) -> &mut Book;
 }
 
@@ -69,7 +69,7 @@ pub struct Timed<'a, R, B> {
 }
 
 impl<'a, R: Clock, B: Steps + Drop> Timed<'a, R, B> {
-    /// A book none of whose steps were timed.
+    /// A book, before the first step.
     pub fn new(clock: &'a R, alloc: Global, book: B) -> Timed<'a, R, B> {
         Timed {
             clock,
@@ -78,7 +78,7 @@ impl<'a, R: Clock, B: Steps + Drop> Timed<'a, R, B> {
         }
     }
 
-    /// All times.
+    /// Returns all times.
     pub fn all(self) -> Result<Vec<Lap>, AllocError> {
         self.laps.all()
     }

@@ -1,4 +1,4 @@
-//! A thread waits for a step that is refused as `Stall`.
+//! A thread waits for a step that fails with `Stall`.
 
 use crate::acting::{config, opened};
 use anyhow::{Result, bail};
@@ -11,7 +11,7 @@ use std::thread;
 use std::thread::Threads;
 use std::time::{Clock, Duration, Instant};
 
-/// A seat at the book that threads share.
+/// Does a step by the seat of an actor. Returns whether it is accepted.
 fn acts<R: Wait>(rt: &R, shared: &Shared, seats: &mut [Seat], actor: Actor, step: Step) -> bool {
     for seat in seats {
         if seat.actor() == actor {
@@ -21,8 +21,8 @@ fn acts<R: Wait>(rt: &R, shared: &Shared, seats: &mut [Seat], actor: Actor, step
     false
 }
 
-/// The steps after which thread 0 has to wait for thread 1: an object of a page that is protected is in a
-/// register of thread 0, which has crossed, and thread 1 hasn't.
+/// Does steps after which thread 0 has to wait for thread 1: a register of thread 0, which has crossed, leads to a
+/// protected page, and thread 1 hasn't crossed. Returns whether all are accepted.
 fn prepare<R: Wait>(
     rt: &R,
     alloc: Global,
@@ -56,12 +56,12 @@ fn cross_late<R: Wait + Clock>(rt: &R, shared: &Shared, mut seat: Seat, millis: 
     shared.step(rt, &mut seat, Step::Cross).is_ok()
 }
 
-/// Thread 0 corrects its register, for which it has to wait.
+/// Thread 0 corrects its register, and waits until it may.
 fn scrub<R: Wait>(rt: &R, shared: &Shared, mut seat: Seat) -> bool {
     shared.step_wait(rt, &mut seat, Step::Scrub(0)).is_ok()
 }
 
-/// Both threads at once. Gives how many steps were accepted.
+/// Runs both threads at once. Returns how many steps were accepted.
 fn both<R: Threads + Wait + Clock + Sync>(
     rt: &R,
     shared: &Shared,
@@ -77,8 +77,8 @@ fn both<R: Threads + Wait + Clock + Sync>(
     u64::from(scrubbed).wrapping_add(u64::from(crossed))
 }
 
-/// Thread 0 waits so many milliseconds for a step of thread 1: these have the first two seats. None where
-/// there are none.
+/// Thread 0 waits for a step of thread 1, which comes after some milliseconds. Returns how many steps were accepted, or
+/// `None` without these seats, which are the first two.
 fn waited<R: Threads + Wait + Clock + Sync>(
     rt: &R,
     shared: &Shared,
@@ -91,7 +91,7 @@ fn waited<R: Threads + Wait + Clock + Sync>(
     Some(both(rt, shared, first, second, millis))
 }
 
-/// A thread waits so many milliseconds for a step of another one.
+/// Times the wait of a thread for a step of another one, which comes after some milliseconds.
 pub fn waits<R: Threads + Wait + Clock + Sync>(
     rt: &R,
     alloc: Global,

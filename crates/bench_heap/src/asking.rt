@@ -1,5 +1,5 @@
-//! What the loops ask. Nothing is promised here: a loop that held a `Heap` or a `Book` itself would
-//! carry all that each of its steps promises through its proof, which would take minutes.
+//! Steps and calls of a heap, by traits without contracts: a loop over a `Heap` or a `Book` itself would carry each
+//! step's contract through its proof, which would take minutes.
 
 use cycle::Stepping;
 use heap::Heap;
@@ -11,12 +11,12 @@ pub const THREAD: Actor = Actor::Thread(0);
 /// The one worker of each heap.
 pub const WORKER: Actor = Actor::Worker(0);
 
-/// What is asked by steps: a heap, or a book, which keeps their history.
+/// A heap or a book, driven by steps.
 pub trait Steps {
-    /// A step of an actor. A refused step changes nothing.
+    /// Does a step of an actor. A rejected step changes nothing.
     fn step(&mut self, actor: Actor, step: Step) -> Reply;
 
-    /// The heap as it stands.
+    /// Returns the heap.
     fn heap(&self) -> &Heap;
 }
 
@@ -44,9 +44,9 @@ impl Steps for Book {
     }
 }
 
-/// A heap that is asked by calls and by steps.
+/// A heap that is driven by calls and by steps.
 pub trait Calls: Mutating + Steps {
-    /// The heap, which may be changed.
+    /// Returns the heap, to be changed.
     fn heap_mut(&mut self) -> &mut Heap;
 }
 

@@ -1,4 +1,4 @@
-//! The mixes by the calls of `Mutating`.
+//! Mixes of steps by the calls of `Mutating`.
 
 use crate::mixes::{LAST, LIST, Mix, OBJECTS, OTHER, WORDS, config};
 use anyhow::Result;
@@ -8,8 +8,9 @@ use std::alloc::Global;
 
 const THREAD: u32 = 0;
 
-/// A heap that is asked by calls, and says how many objects were born.
+/// A heap that is driven by calls, and counts its births.
 trait Counted: Mutating {
+    /// Returns how many objects were allocated.
     fn births(&self) -> u64;
 }
 
@@ -25,7 +26,7 @@ impl Counted for HeldHeap {
     }
 }
 
-/// A datum is written and read so many times. Gives the sum of what was read.
+/// Writes and reads a datum `count` times. Returns the sum of what was read.
 fn data(heap: &mut impl Mutating, count: u32) -> Result<u64, Refusal> {
     let mut sum = 0u64;
     for turn in 0..count {
@@ -35,7 +36,7 @@ fn data(heap: &mut impl Mutating, count: u32) -> Result<u64, Refusal> {
     Ok(sum)
 }
 
-/// So many objects are put before a list, in the buffer that is there.
+/// Puts `count` objects in front of a list, in the open buffer.
 fn link(heap: &mut impl Mutating, count: u32) -> Result<(), Refusal> {
     for _ in 0..count {
         heap.new_object(THREAD, OTHER, 0)?;
@@ -45,7 +46,7 @@ fn link(heap: &mut impl Mutating, count: u32) -> Result<(), Refusal> {
     Ok(())
 }
 
-/// So many objects are put before a list, in buffers of a page each.
+/// Puts `count` objects in front of a list, in buffers of a page each.
 fn build(heap: &mut impl Mutating, count: u32) -> Result<(), Refusal> {
     let mut left = count;
     for _ in 0..count.div_ceil(OBJECTS) {
@@ -57,7 +58,7 @@ fn build(heap: &mut impl Mutating, count: u32) -> Result<(), Refusal> {
     Ok(())
 }
 
-/// What a load that has begun does up to its end.
+/// Ends a load that has begun.
 fn end_load(heap: &mut impl Mutating) -> Result<(), Refusal> {
     if heap.trap(THREAD)? != Trap::Clear {
         heap.heal(THREAD)?;
@@ -65,7 +66,7 @@ fn end_load(heap: &mut impl Mutating) -> Result<(), Refusal> {
     heap.finish(THREAD)
 }
 
-/// Whether the walk is at the list's end; then it goes back to its head.
+/// Returns whether the walk is at the list's end; if so it goes back to the head.
 fn has_ended(heap: &mut impl Mutating) -> Result<bool, Refusal> {
     if !heap.is_null(THREAD, LAST)? {
         return Ok(false);
@@ -74,7 +75,7 @@ fn has_ended(heap: &mut impl Mutating) -> Result<bool, Refusal> {
     Ok(true)
 }
 
-/// So many references of a list are loaded. Gives how often its end was met.
+/// Loads `count` references of a list. Returns how often its end was met.
 fn walk(heap: &mut impl Mutating, count: u32) -> Result<u64, Refusal> {
     let mut ends = 0u64;
     for _ in 0..count {
@@ -85,8 +86,7 @@ fn walk(heap: &mut impl Mutating, count: u32) -> Result<u64, Refusal> {
     Ok(ends)
 }
 
-/// A register is copied, compared, tested and cleared so many times. Gives how often it was the
-/// same and not null.
+/// Copies, compares, tests and clears a register `count` times. Returns how often it was the same and not null.
 fn registers(heap: &mut impl Mutating, count: u32) -> Result<u64, Refusal> {
     let mut found = 0u64;
     for _ in 0..count {
@@ -99,7 +99,7 @@ fn registers(heap: &mut impl Mutating, count: u32) -> Result<u64, Refusal> {
     Ok(found)
 }
 
-/// A global is stored and loaded so many times. Gives how many times it was.
+/// Stores and loads a global `count` times. Returns how often it did.
 fn globals(heap: &mut impl Mutating, count: u32) -> Result<u64, Refusal> {
     let mut loaded = 0u64;
     for _ in 0..count {
@@ -111,7 +111,7 @@ fn globals(heap: &mut impl Mutating, count: u32) -> Result<u64, Refusal> {
     Ok(loaded)
 }
 
-/// The turns of a mix, on a heap that has what it needs.
+/// Does `count` turns of a mix, on a heap that has what they need. Returns their result.
 fn turns(heap: &mut impl Counted, mix: Mix, count: u32) -> Result<u64, Refusal> {
     match mix {
         Mix::Data => data(heap, count),
@@ -125,20 +125,19 @@ fn turns(heap: &mut impl Counted, mix: Mix, count: u32) -> Result<u64, Refusal> 
     }
 }
 
-/// Makes a list, whose head is in both registers, and does so many turns of a mix. Gives a number
-/// that the turns give.
+/// Makes a list, whose head is in both registers, and does `count` turns of a mix. Returns their result.
 fn mixed(mut heap: impl Counted + Drop, mix: Mix, count: u32) -> Result<u64, Refusal> {
     build(&mut heap, LIST)?;
     turns(&mut heap, mix, count)
 }
 
-/// So many turns of a mix on a heap of its own. Gives a number that they give.
+/// Does `count` turns of a mix on a new heap. Returns their result.
 pub fn run(alloc: Global, mix: Mix, count: u32) -> Result<u64> {
     let heap = Heap::new(alloc, config(alloc, mix)?)?;
     Ok(mixed(heap, mix, count)?)
 }
 
-/// The same on a heap as a program holds it.
+/// Does the same on a new managed heap.
 pub fn run_held(alloc: Global, mix: Mix, count: u32) -> Result<u64> {
     let heap = HeldHeap::new(alloc, config(alloc, mix)?)?;
     Ok(mixed(heap, mix, count)?)

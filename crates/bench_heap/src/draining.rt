@@ -1,9 +1,8 @@
-//! Marks of a list or of trees, which one worker drains: by steps, or by a call that scans each
-//! object whole.
+//! Marks of a list or of trees, which one worker drains: by steps, or by a call that scans complete objects.
 
 use crate::asking::{Calls, Steps, THREAD, WORKER};
-use crate::step_lists::build;
 use crate::mixes::{LAST, OTHER, WORDS};
+use crate::step_lists::build;
 use crate::trees::trees;
 use anyhow::Result;
 use drains::drain;
@@ -19,20 +18,20 @@ const WORKER_NUMBER: u32 = 0;
 pub enum DrainBy {
     /// By steps, each of one reference.
     Steps,
-    /// By steps up to the last global, and then by one call.
+    /// By steps for the globals, and then by one call.
     Call,
 }
 
 /// What is marked.
 #[derive(Clone, Copy)]
 pub enum Shape {
-    /// A list of so many objects.
+    /// A list of this many objects.
     List(u32),
-    /// So many trees, of 16,383 objects each.
+    /// This many trees, of 16,383 objects each.
     Trees(u32),
 }
 
-/// A list of so many objects of two words, in global 0.
+/// Makes a list of `count` objects of two words, in global 0.
 fn list(heap: &mut impl Steps, count: u32) -> Result<(), Refusal> {
     build(heap, count, WORDS / 2)?;
     let (global, source) = (0, LAST);
@@ -42,7 +41,7 @@ fn list(heap: &mut impl Steps, count: u32) -> Result<(), Refusal> {
     Ok(())
 }
 
-/// What is marked is made.
+/// Makes what is marked.
 fn make(heap: &mut impl Steps, shape: Shape) -> Result<(), Refusal> {
     match shape {
         Shape::List(count) => list(heap, count),
@@ -50,19 +49,19 @@ fn make(heap: &mut impl Steps, shape: Shape) -> Result<(), Refusal> {
     }
 }
 
-/// A mark begins, and the thread crosses.
+/// Starts a mark, and has the thread cross.
 fn start(heap: &mut impl Steps) -> Result<(), Refusal> {
     heap.step(WORKER, Step::StartMark)?;
     heap.step(THREAD, Step::Cross)?;
     Ok(())
 }
 
-/// What the worker does next.
+/// Returns the worker's next step of the drain.
 fn next(heap: &Heap) -> Option<Step> {
     next_drain(heap, WORKER_NUMBER)
 }
 
-/// A drain by steps. Gives how many steps it took.
+/// Drains by steps. Returns how many they were.
 fn drained(heap: &mut impl Steps) -> Result<u64, Refusal> {
     for turn in 0..u64::MAX {
         let Some(work) = next(heap.heap()) else {
@@ -84,8 +83,7 @@ fn mark_globals(heap: &mut impl Steps) -> Result<(), Refusal> {
     Ok(())
 }
 
-/// What is left of a drain, by one call; nothing where the worker may not. Gives how many objects
-/// were scanned.
+/// Drains the rest by one call, if the worker may. Returns how many objects were scanned.
 fn drain_rest(heap: &mut Heap) -> u64 {
     if !is_ready(heap, WORKER_NUMBER) {
         return 0;
@@ -93,13 +91,13 @@ fn drain_rest(heap: &mut Heap) -> u64 {
     drain(heap, WORKER_NUMBER, u64::MAX)
 }
 
-/// A drain whose objects are scanned whole. Gives how many there were.
+/// Drains by a call that scans complete objects. Returns how many they were.
 fn drained_whole(heap: &mut impl Calls) -> Result<u64, Refusal> {
     mark_globals(heap)?;
     Ok(drain_rest(heap.heap_mut()))
 }
 
-/// A mark, from its start to its end. Gives what its drain gives.
+/// Does a mark, from its start to its end. Returns its drain's result.
 fn mark(heap: &mut impl Calls, by: DrainBy) -> Result<u64, Refusal> {
     start(heap)?;
     let count = match by {
@@ -110,7 +108,7 @@ fn mark(heap: &mut impl Calls, by: DrainBy) -> Result<u64, Refusal> {
     Ok(count)
 }
 
-/// So many marks. Gives what the drain of the last gives.
+/// Does this many marks. Returns the result of the last drain.
 fn mark_all(heap: &mut impl Calls, by: DrainBy, turns: u32) -> Result<u64, Refusal> {
     let mut count = 0;
     for _ in 0..turns {
@@ -119,8 +117,7 @@ fn mark_all(heap: &mut impl Calls, by: DrainBy, turns: u32) -> Result<u64, Refus
     Ok(count)
 }
 
-/// What is marked is made, and marked so many times; where that is 0, a mark begins. Gives what the
-/// drain of the last gives.
+/// Makes what is marked, and marks it `turns` times; if that is 0, a mark begins. Returns the result of the last drain.
 fn marked(
     mut heap: impl Calls + Drop,
     by: DrainBy,
@@ -135,7 +132,7 @@ fn marked(
     mark_all(&mut heap, by, turns)
 }
 
-/// What the heap is made with: a layout of one reference for lists, and one of two for trees.
+/// Configures a heap: a layout of one reference for lists, and one of two for trees.
 fn config(alloc: Global) -> Result<Config> {
     let layouts = Layouts::new(vec![in alloc;
         Layout { refs: 1, nums: 0 },
@@ -144,8 +141,8 @@ fn config(alloc: Global) -> Result<Config> {
     Ok(Config::new(WORDS, 512, layouts))
 }
 
-/// A list or trees are marked so many times; where that is 0, a mark begins. Gives how many steps the
-/// last drain took, or how many objects it scanned whole.
+/// Marks a list or trees `turns` times; if that is 0, a mark begins. Returns how many steps the last drain took, or how
+/// many objects the call scanned.
 pub fn marks(alloc: Global, by: DrainBy, shape: Shape, turns: u32) -> Result<u64> {
     let heap = Heap::new(alloc, config(alloc)?)?;
     Ok(marked(heap, by, shape, turns)?)

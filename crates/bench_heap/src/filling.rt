@@ -1,4 +1,4 @@
-//! Pages that are filled with objects, of which each second one lives.
+//! Pages that are filled with objects, every second one of which is live.
 
 use anyhow::Result;
 use pauseless::{Config, Layout, Layouts, ManagedHeap, Mutating, Refusal};
@@ -7,13 +7,13 @@ use std::alloc::Global;
 /// The one thread.
 const ME: u32 = 0;
 
-/// The register of the list of what lives.
+/// The register of the list of live objects.
 const KEPT: u32 = 0;
 
 /// The register of a new object.
 const NEW: u32 = 1;
 
-/// A new object is put before the list, to which all of its references lead, so many.
+/// Puts a new object in front of the list, to which all of its `refs` references lead.
 fn keep(heap: &mut impl Mutating, refs: u32) -> Result<(), Refusal> {
     heap.new_object(ME, NEW, 0)?;
     for field in 0..refs {
@@ -22,7 +22,7 @@ fn keep(heap: &mut impl Mutating, refs: u32) -> Result<(), Refusal> {
     heap.copy_register(ME, KEPT, NEW)
 }
 
-/// So many objects that live are made in the buffer that is there, and as many that don't.
+/// Makes `count` live objects in the open buffer, and a garbage object after each.
 fn make(heap: &mut impl Mutating, count: u32, refs: u32) -> Result<(), Refusal> {
     for _ in 0..count {
         keep(heap, refs)?;
@@ -31,8 +31,7 @@ fn make(heap: &mut impl Mutating, count: u32, refs: u32) -> Result<(), Refusal> 
     Ok(())
 }
 
-/// So many pages of so many words are filled, each with so many objects that live, and as many that don't. An
-/// object has so many references.
+/// Fills pages of this many words, each with `count` live objects and as many garbage ones, of `refs` references each.
 pub fn fill(
     heap: &mut impl Mutating,
     words: u32,
@@ -48,19 +47,19 @@ pub fn fill(
     heap.clear_register(ME, NEW)
 }
 
-/// Objects of a size of 2 to 1,025 words, with one reference and data.
+/// The layout of objects of 2 to 1,025 words, with one reference and data.
 pub fn narrow(size: u32) -> Result<Layout> {
     let nums = u16::try_from(size.saturating_sub(2).min(1_023))?;
     Ok(Layout { refs: 1, nums })
 }
 
-/// Objects of a size of 2 to 1,024 words, with references alone.
+/// The layout of objects of 2 to 1,024 words, with references only.
 pub fn wide(size: u32) -> Result<Layout> {
     let refs = u16::try_from(size.saturating_sub(1).clamp(1, 1_023))?;
     Ok(Layout { refs, nums: 0 })
 }
 
-/// A heap of so many frames of so many words, with objects of this layout.
+/// Makes a heap of this many frames, with objects of this layout.
 pub fn new_heap(alloc: Global, words: u32, frames: u32, layout: Layout) -> Result<ManagedHeap> {
     let layouts = Layouts::new(vec![in alloc; layout]?);
     Ok(ManagedHeap::new(alloc, Config::new(words, frames, layouts))?)

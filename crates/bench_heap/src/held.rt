@@ -1,5 +1,5 @@
-//! The heap of each work, and what is asked of it. Nothing is promised here: a loop that held a `ManagedHeap`
-//! itself would carry all that each of its calls promises through its proof.
+//! The managed heap of each work that marks or collects, by a trait without contracts: a loop over a `ManagedHeap`
+//! itself would carry each call's contract through its proof.
 
 use anyhow::Result;
 use pauseless::{Config, Holding, Layout, Layouts, ManagedHeap, Policy, Refusal};
@@ -8,7 +8,7 @@ use std::alloc::Global;
 /// The one thread of each heap.
 pub const ME: u32 = 0;
 
-/// Registers: what is reached first, and a new object.
+/// Registers: the root of a shape, and a new object.
 pub const HEAD: u32 = 0;
 
 pub const NODE: u32 = 1;
@@ -16,7 +16,7 @@ pub const NODE: u32 = 1;
 /// The registers of a thread.
 const REGISTERS: u32 = 16;
 
-/// The layouts: of an object of a list, of one with two references, and of a table.
+/// Layouts: of an object of a list, of one with two references, and of a table.
 pub const LINK: u32 = 0;
 
 pub const BRANCH: u32 = 1;
@@ -31,15 +31,15 @@ const WORDS: u32 = 4_096;
 
 const FRAMES: u32 = 1_024;
 
-/// Pages of which at most so many words of a hundred are live are emptied.
+/// A page is emptied if at most this percentage of its words is live.
 const PERCENT: u32 = 75;
 
 /// A heap that is marked and collected by one call.
 pub trait Marked: Holding {
-    /// A mark, from its start to its end. Gives how many objects live.
+    /// Marks, from start to end. Returns how many objects are live.
     fn mark_once(&mut self) -> Result<u64, Refusal>;
 
-    /// A whole collection. Gives how many objects live.
+    /// Collects completely. Returns how many objects are live.
     fn collect_once(&mut self, alloc: Global) -> Result<u64, Refusal>;
 }
 
@@ -53,14 +53,14 @@ impl Marked for ManagedHeap {
     }
 }
 
-/// A new object of a layout, in a register.
+/// Allocates an object of a layout, in a register.
 #[inline(always)]
 pub fn make(alloc: Global, heap: &mut impl Holding, target: u32, layout: u32) -> Result<()> {
     heap.make(alloc, Policy::usual(WORDS, FRAMES), ME, target, layout)?;
     Ok(())
 }
 
-/// All registers become null.
+/// Makes all registers null.
 fn clear(heap: &mut impl Holding) -> Result<(), Refusal> {
     for register in 0..REGISTERS {
         heap.clear_register(ME, register)?;
@@ -68,13 +68,13 @@ fn clear(heap: &mut impl Holding) -> Result<(), Refusal> {
     Ok(())
 }
 
-/// What is reached first is in global 0, and in no register.
+/// Moves the root of a shape into global 0, and makes all registers null.
 pub fn settle(heap: &mut impl Holding) -> Result<(), Refusal> {
     heap.store_global(ME, 0, HEAD)?;
     clear(heap)
 }
 
-/// A heap whose lists have objects of so many words: a header, a reference, and data, at most 255 words.
+/// Makes a heap, of which an object of a list has this many words: a header, a reference, and data, at most 255 words.
 pub fn new_heap(alloc: Global, words: u32) -> Result<ManagedHeap> {
     let nums = words.saturating_sub(2).min(255) as u16;
     let layouts = Layouts::new(vec![in alloc;

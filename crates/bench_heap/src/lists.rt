@@ -1,11 +1,11 @@
-//! Lists are made, and objects that nobody keeps.
+//! Lists, and garbage objects.
 
 use crate::held::{HEAD, LINK, ME, NODE, make};
 use anyhow::Result;
 use pauseless::Holding;
 use std::alloc::Global;
 
-/// A new object becomes the head of the list.
+/// Puts a new object in front of the list.
 #[inline(always)]
 fn push(alloc: Global, heap: &mut impl Holding) -> Result<()> {
     make(alloc, heap, NODE, LINK)?;
@@ -13,7 +13,7 @@ fn push(alloc: Global, heap: &mut impl Holding) -> Result<()> {
     Ok(heap.copy_register(ME, HEAD, NODE)?)
 }
 
-/// A list of so many objects.
+/// Makes a list of `count` objects.
 pub fn list(alloc: Global, heap: &mut impl Holding, count: u32) -> Result<()> {
     for _ in 0..count {
         push(alloc, heap)?;
@@ -21,7 +21,7 @@ pub fn list(alloc: Global, heap: &mut impl Holding, count: u32) -> Result<()> {
     Ok(())
 }
 
-/// The same; behind each object another one is made that nobody keeps.
+/// Does the same, with a garbage object after each.
 pub fn half(alloc: Global, heap: &mut impl Holding, count: u32) -> Result<()> {
     for _ in 0..count {
         push(alloc, heap)?;
@@ -30,7 +30,7 @@ pub fn half(alloc: Global, heap: &mut impl Holding, count: u32) -> Result<()> {
     Ok(())
 }
 
-/// So many objects that nobody keeps, but for the last one.
+/// Makes `count` garbage objects; a register has the last one.
 pub fn waste(alloc: Global, heap: &mut impl Holding, count: u32) -> Result<()> {
     for _ in 0..count {
         make(alloc, heap, NODE, LINK)?;

@@ -9,8 +9,8 @@
 //! | `held-MIX TURNS` | the same on a managed heap |
 //! | `step-MIX TURNS` | the same by `Heap::step` |
 //! | `act-MIX TURNS` | the same by `Book::act` |
-//! | `copies WORDS PAGES COPIED` | protects PAGES pages full of objects of WORDS words, and copies the first COPIED, an object a step |
-//! | `pages WORDS PAGES COPIED` | the same, a page a step |
+//! | `copies WORDS PAGES COPIED` | protects PAGES full pages of objects of WORDS words, and copies COPIED by object |
+//! | `pages WORDS PAGES COPIED` | the same, by page |
 //! | `slices WORDS PAGES COPIED` | copies the words of COPIED pages, WORDS at a time, without a heap |
 //! | `verified WORDS FRAMES TIMES` | verifies a heap of FRAMES frames of WORDS words TIMES times |
 //! | `scan-list OBJECTS MARKS`, `scan-trees TREES MARKS` | marks a list or trees, drained by steps |
@@ -31,18 +31,23 @@
 //! | `list` | a list of COUNT objects of WORDS words: a header, a reference, and data |
 //! | `half` | the same, with a garbage object after each |
 //! | `tree` | COUNT objects of a header and two references, as one tree whose levels are full but for the last |
-//! | `graph` | COUNT objects of a header and two references: one to the next object of a cycle without order through all of them, one to any object; COUNT is a power of two |
+//! | `graph` | COUNT objects of a header and two references, to the next object of a cycle and to any object |
 //!
-//! A tree and a graph have at most 262,144 objects, and objects at most 257 words. Two runs that differ in the last
-//! number differ in one loop, so the difference of their times is that loop's.
+//! The cycle goes through all objects of a graph, in a pseudo-random order; their COUNT is a power of two. A tree and a
+//! graph have at most 262,144 objects, and objects at most 257 words.
+//!
+//! Two runs of these works that differ in the last number differ in one loop, so the difference of their times is that
+//! loop's.
 //!
 //! `bench/pauses.py` measures collections in parts. Such a work prints how often each kind of part was done; after the
 //! word `timed` it prints nanoseconds too.
 //!
 //! | Words | Effect |
 //! |---|---|
-//! | `parts WORDS FRAMES SIZE PAGES BUDGET` | fills PAGES pages with objects of SIZE words, every second one live, and collects three times in parts with this budget, then once by one call |
+//! | `parts WORDS FRAMES SIZE PAGES BUDGET` | fills PAGES pages with objects of SIZE words, and collects four times |
 //! | `wide WORDS FRAMES SIZE PAGES BUDGET` | the same, with objects of references only |
+//!
+//! Every second object is live. Three collections are done in parts with this budget, the last by one call.
 //!
 //! | Kind of part | Does |
 //! |---|---|

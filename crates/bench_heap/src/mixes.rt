@@ -1,16 +1,15 @@
-//! The mixes of steps that each form of calls does, and the heaps that they are done on. `bench/plain.rs`
-//! has the same.
+//! The mixes of steps, which each form of calls does, and their heaps. `bench/plain.rs` has the same.
 //!
 //! | Mix | A turn | Steps |
 //! |---|---|---|
-//! | `data` | a datum is written, and read | 2 |
-//! | `build` | an object is born, gets the last one as its reference, and is the last one then | 3 |
-//! | `walk` | a reference is loaded (load, trap, finish), and tested for null | 4 |
-//! | `registers` | a register is copied, compared, tested and cleared | 4 |
-//! | `globals` | a global is stored, and loaded (load, trap, finish) | 4 |
+//! | `data` | writes and reads a datum | 2 |
+//! | `build` | puts a new object in front of a list | 3 |
+//! | `walk` | loads a reference (load, trap, finish), and tests it for null | 4 |
+//! | `registers` | copies, compares, tests and clears a register | 4 |
+//! | `globals` | stores and loads a global (load, trap, finish) | 4 |
 //!
-//! Beside these steps `build` takes and gives back a buffer for each page of objects, and `walk` goes
-//! back to the head of its list where it ends.
+//! In addition `build` takes and gives back a buffer for each page of objects, and `walk` goes back to the head of its
+//! list at the end.
 
 use anyhow::Result;
 use pauseless::{Config, Layout, Layouts};
@@ -25,7 +24,7 @@ pub const OBJECTS: u32 = 1_365;
 /// The objects of the list that is walked.
 pub const LIST: u32 = 1_000;
 
-/// The register of the object that is used, or of the last one that was made.
+/// The register of the object in use, or of the last one that was made.
 pub const LAST: u32 = 0;
 
 /// A second register.
@@ -41,7 +40,7 @@ pub enum Mix {
     Globals,
 }
 
-/// The mix of a name.
+/// Returns the mix of a name.
 pub fn named(name: &str) -> Option<Mix> {
     match name {
         "data" => Some(Mix::Data),
@@ -53,7 +52,7 @@ pub fn named(name: &str) -> Option<Mix> {
     }
 }
 
-/// The frames that a mix takes: as many as there may be where it fills them, else one.
+/// The frames of a mix: as many as a heap can have if it fills them, else one.
 fn frames(mix: Mix) -> u32 {
     match mix {
         Mix::Build => 4_096,
@@ -61,7 +60,7 @@ fn frames(mix: Mix) -> u32 {
     }
 }
 
-/// What the heap of a mix is made with: one layout, of a reference and a datum.
+/// Configures the heap of a mix: one layout, of a reference and a datum.
 pub fn config(alloc: Global, mix: Mix) -> Result<Config> {
     let layouts = Layouts::new(vec![in alloc; Layout { refs: 1, nums: 1 }]?);
     Ok(Config::new(WORDS, frames(mix), layouts))

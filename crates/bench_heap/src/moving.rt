@@ -1,4 +1,4 @@
-//! Pages full of live objects are copied, beside slices of the same words.
+//! Copies of pages full of live objects, and of slices of as many words.
 
 ghost use Rattle.std.specs.Prelude.{◌<◌};
 
@@ -18,8 +18,7 @@ pub enum CopyBy {
     Page,
 }
 
-/// The layout of objects of so many words, all of which are data but for the header, up to 255, and
-/// references.
+/// The layout of objects of `size` words: a header, up to 255 words of data, and references.
 fn layout(size: u32) -> Layout {
     let fields = size.saturating_sub(1).min(510);
     let nums = fields.min(255);
@@ -29,7 +28,7 @@ fn layout(size: u32) -> Layout {
     }
 }
 
-/// Fills a page with objects, as many as it has room for.
+/// Fills a page with `objects` objects.
 fn fill(heap: &mut impl Steps, words: u32, objects: u32) -> Result<(), Refusal> {
     let (target, layout) = (0, 0);
     heap.step(THREAD, Step::Take(words))?;
@@ -40,7 +39,7 @@ fn fill(heap: &mut impl Steps, words: u32, objects: u32) -> Result<(), Refusal> 
     Ok(())
 }
 
-/// Fills pages with objects that live: they are born while a mark runs.
+/// Fills pages with live objects: they are allocated during a mark.
 pub fn fill_live(
     heap: &mut impl Steps,
     words: u32,
@@ -65,12 +64,12 @@ fn first_pages(alloc: Global, count: u32) -> Result<PageList> {
     Ok(PageList::new(pages))
 }
 
-/// How many objects of a size a page of so many words has.
+/// Returns how many objects of a size a page of this many words has.
 pub fn objects_of(words: u32, size: u32) -> u32 {
     words / size.max(1)
 }
 
-/// Full pages are protected, as all threads know.
+/// Fills pages and protects them, and has the thread cross.
 fn protect_full(
     heap: &mut impl Steps,
     protect: Step,
@@ -110,8 +109,7 @@ fn copy_pages(heap: &mut impl Steps, by: CopyBy, pages: u32, objects: u32) -> Re
     Ok(())
 }
 
-/// Full pages of objects of so many words are protected, and the first of them are copied. Gives how
-/// many objects have still to be.
+/// Protects full pages of objects of `size` words, and copies the first `count`. Returns how many objects are uncopied.
 fn copied(
     alloc: Global,
     mut heap: impl Steps + Drop,
@@ -127,8 +125,7 @@ fn copied(
     Ok(heap.heap().sides().uncopied())
 }
 
-/// What a heap is made with that has so many pages of objects of so many words, and frames for as
-/// many copies.
+/// Configures a heap of `pages` pages of objects of `size` words, with frames for as many copies.
 fn config(alloc: Global, size: u32, pages: u32) -> Result<Config> {
     let layouts = Layouts::new(vec![in alloc; layout(size)]?);
     let mut config = Config::new(WORDS, pages.saturating_mul(2), layouts);
@@ -136,14 +133,14 @@ fn config(alloc: Global, size: u32, pages: u32) -> Result<Config> {
     Ok(config)
 }
 
-/// Full pages of objects of so many words are protected; then all objects of the first `count` of
-/// them are copied. Gives how many objects have still to be.
+/// Protects full pages of objects of `size` words in a new heap, and copies all objects of the first `count`. Returns
+/// how many objects are uncopied.
 pub fn copies(alloc: Global, by: CopyBy, size: u32, pages: u32, count: u32) -> Result<u64> {
     let heap = Heap::new(alloc, config(alloc, size, pages)?)?;
     copied(alloc, heap, by, size, pages, count)
 }
 
-/// Copies so many words at a time, so often.
+/// Copies `each` words at a time, `count` times.
 fn copy_slices(from: &[u64], to: &mut [u64], each: usize, count: usize)
     requires { 0 < each }
 {
@@ -156,8 +153,8 @@ fn copy_slices(from: &[u64], to: &mut [u64], each: usize, count: usize)
     }
 }
 
-/// As many words as pages have are made twice; then those of so many pages are copied, so many words
-/// at a time. Gives one of the words.
+/// Makes two lists of as many words as pages have, and copies those of `copied` pages, `size` at a time. Returns one of
+/// the words.
 pub fn slices(alloc: Global, size: u32, pages: u32, copied: u32) -> Result<u64> {
     let words = pages as usize * WORDS as usize;
     let from: Vec<u64> = vec![in alloc; 7; words]?;

@@ -1,4 +1,4 @@
-//! Parts of collections, each of which is timed.
+//! Collections in parts, each of which is timed.
 
 use crate::filling::{fill, new_heap};
 use anyhow::Result;
@@ -9,15 +9,15 @@ use pauseless::{Holding, Layout, ManagedHeap as HeldHeap, Parts};
 use std::alloc::Global;
 use std::time::{Clock, Instant};
 
-/// Pages of which at most so many words of a hundred live are emptied.
+/// A page is emptied if at most this percentage of its words is live.
 const PERCENT: u32 = 75;
 
-/// How many collections in parts are done.
+/// The number of collections in parts.
 const COLLECTIONS: u32 = 3;
 
-/// A heap that is held, which can be looked at.
+/// A managed heap whose state can be read.
 trait Seen: Holding {
-    /// The heap as it stands.
+    /// Returns the heap.
     fn inside(&self) -> &Heap;
 }
 
@@ -27,18 +27,18 @@ impl Seen for HeldHeap {
     }
 }
 
-/// What tells the kinds of parts apart.
+/// The state by which kinds of parts differ.
 #[derive(Clone, Copy)]
 struct Sight {
     phase: Phase,
     /// The objects that are still to be copied.
     uncopied: u64,
-    /// The frames that are used, and those whose memory is kept.
+    /// The frames in use, and those whose memory is kept.
     used: usize,
     kept: usize,
 }
 
-/// How a heap looks.
+/// Reads the state.
 fn look(heap: &impl Seen) -> Sight {
     let inside = heap.inside();
     Sight {
@@ -49,7 +49,7 @@ fn look(heap: &impl Seen) -> Sight {
     }
 }
 
-/// The kind of a part that neither protected nor copied.
+/// Returns the kind of a part that neither protected nor copied.
 fn kind_by_phase(before: Sight, after: Sight, ended: bool) -> &'static str {
     match (before.phase, after.phase) {
         (Phase::Scanning, Phase::Scanning) => "scan",
@@ -65,7 +65,7 @@ fn kind_by_phase(before: Sight, after: Sight, ended: bool) -> &'static str {
     }
 }
 
-/// The kind of a part that neither protected nor copied, and has left the phase as it was.
+/// Returns the kind of a part that neither protected nor copied, and didn't change the phase.
 fn kind_by_frames(before: Sight, after: Sight) -> &'static str {
     if after.used < before.used {
         "empty"
@@ -76,7 +76,7 @@ fn kind_by_frames(before: Sight, after: Sight) -> &'static str {
     }
 }
 
-/// The kind of a part.
+/// Returns the kind of a part.
 fn kind(before: Sight, after: Sight, ended: bool) -> &'static str {
     if before.uncopied < after.uncopied {
         "protect"
@@ -87,7 +87,7 @@ fn kind(before: Sight, after: Sight, ended: bool) -> &'static str {
     }
 }
 
-/// One part. True where the collection has ended.
+/// Does and times one part. Returns whether the collection has ended.
 fn part<R: Clock>(
     rt: &R,
     alloc: Global,
@@ -104,7 +104,7 @@ fn part<R: Clock>(
     Ok(ended)
 }
 
-/// All parts of a collection.
+/// Does all parts of a collection.
 fn collect<R: Clock>(
     rt: &R,
     alloc: Global,
@@ -121,7 +121,7 @@ fn collect<R: Clock>(
     Ok(())
 }
 
-/// A collection by one call.
+/// Collects by one call.
 fn collect_whole<R: Clock>(
     rt: &R,
     alloc: Global,
@@ -134,7 +134,7 @@ fn collect_whole<R: Clock>(
     Ok(laps.add("whole", nanos)?)
 }
 
-/// All collections of a heap with so many pages full of so many objects that live.
+/// Fills the pages of a heap, and does all collections.
 fn collections<R: Clock>(
     rt: &R,
     alloc: Global,
@@ -153,8 +153,8 @@ fn collections<R: Clock>(
     Ok(laps.all()?)
 }
 
-/// Collections of a heap of so many words a page and so many frames, with so many pages full of objects of a
-/// size and this layout, in parts with a budget.
+/// Does all collections of a new heap, whose objects have this layout. The numbers are the words of a page, the frames,
+/// the words of an object, the full pages, and the budget of a part.
 pub fn timed<R: Clock>(
     rt: &R,
     alloc: Global,

@@ -1,10 +1,10 @@
-//! A list is made, by steps.
+//! Lists that are made by steps.
 
 use crate::asking::{Steps, THREAD};
 use crate::mixes::{LAST, OTHER, WORDS};
 use pauseless::{Refusal, Step};
 
-/// So many objects of layout 0 are put before a list, in the buffer that is there.
+/// Puts `count` objects of layout 0 in front of a list, in the open buffer.
 fn link(heap: &mut impl Steps, count: u32) -> Result<(), Refusal> {
     let (target, layout, field) = (OTHER, 0, 0);
     let (object, source) = (OTHER, LAST);
@@ -22,8 +22,7 @@ fn link(heap: &mut impl Steps, count: u32) -> Result<(), Refusal> {
     Ok(())
 }
 
-/// So many objects of layout 0 are put before a list, in buffers of a page each, which has room for
-/// `each` of them.
+/// Puts `count` objects of layout 0 in front of a list, in buffers of a page each, which has room for `each` of them.
 pub fn build(heap: &mut impl Steps, count: u32, each: u32) -> Result<(), Refusal> {
     let each = each.max(1);
     let mut left = count;

@@ -1,20 +1,20 @@
-//! The mixes by steps: of a heap, or of a book.
+//! Mixes of steps of a heap, or of a recorded heap.
 
 use crate::asking::{Steps, THREAD};
-use crate::step_lists::build;
 use crate::mixes::{LAST, LIST, Mix, OBJECTS, OTHER, config};
+use crate::step_lists::build;
 use anyhow::Result;
 use heap::Heap;
 use pauseless::{Answer, Book, Refusal, Reply, Step};
 use std::alloc::Global;
 
-/// A step of the thread.
+/// Does a step of the thread.
 #[inline(always)]
 fn step(heap: &mut impl Steps, step: Step) -> Reply {
     heap.step(THREAD, step)
 }
 
-/// A datum is written and read so many times. Gives the sum of what was read.
+/// Writes and reads a datum `count` times. Returns the sum of what was read.
 fn data(heap: &mut impl Steps, count: u32) -> Result<u64, Refusal> {
     let (object, index) = (LAST, 0);
     let mut sum = 0u64;
@@ -33,7 +33,7 @@ fn data(heap: &mut impl Steps, count: u32) -> Result<u64, Refusal> {
     Ok(sum)
 }
 
-/// What a load that has begun does up to its end.
+/// Ends a load that has begun.
 fn end_load(heap: &mut impl Steps) -> Result<(), Refusal> {
     if step(heap, Step::Trap)? != Answer::Clear {
         step(heap, Step::Heal)?;
@@ -42,7 +42,7 @@ fn end_load(heap: &mut impl Steps) -> Result<(), Refusal> {
     Ok(())
 }
 
-/// Whether the walk is at the list's end; then it goes back to its head.
+/// Returns whether the walk is at the list's end; if so it goes back to the head.
 fn has_ended(heap: &mut impl Steps) -> Result<bool, Refusal> {
     if step(heap, Step::IsNull(LAST))? != Answer::Truth(true) {
         return Ok(false);
@@ -52,7 +52,7 @@ fn has_ended(heap: &mut impl Steps) -> Result<bool, Refusal> {
     Ok(true)
 }
 
-/// So many references of a list are loaded. Gives how often its end was met.
+/// Loads `count` references of a list. Returns how often its end was met.
 fn walk(heap: &mut impl Steps, count: u32) -> Result<u64, Refusal> {
     let (target, object, field) = (LAST, LAST, 0);
     let mut ends = 0u64;
@@ -69,8 +69,7 @@ fn walk(heap: &mut impl Steps, count: u32) -> Result<u64, Refusal> {
     Ok(ends)
 }
 
-/// A register is copied, compared, tested and cleared so many times. Gives how often it was the
-/// same and not null.
+/// Copies, compares, tests and clears a register `count` times. Returns how often it was the same and not null.
 fn registers(heap: &mut impl Steps, count: u32) -> Result<u64, Refusal> {
     let (source, target) = (LAST, OTHER);
     let (left, right) = (source, target);
@@ -85,7 +84,7 @@ fn registers(heap: &mut impl Steps, count: u32) -> Result<u64, Refusal> {
     Ok(found)
 }
 
-/// A global is stored and loaded so many times. Gives how many times it was.
+/// Stores and loads a global `count` times. Returns how often it did.
 fn globals(heap: &mut impl Steps, count: u32) -> Result<u64, Refusal> {
     let (source, target, global) = (LAST, OTHER, 0);
     let mut loaded = 0u64;
@@ -98,7 +97,7 @@ fn globals(heap: &mut impl Steps, count: u32) -> Result<u64, Refusal> {
     Ok(loaded)
 }
 
-/// The turns of a mix, on a heap that has what it needs.
+/// Does `count` turns of a mix, on a heap that has what they need. Returns their result.
 fn turns(heap: &mut impl Steps, mix: Mix, count: u32) -> Result<u64, Refusal> {
     match mix {
         Mix::Data => data(heap, count),
@@ -112,20 +111,19 @@ fn turns(heap: &mut impl Steps, mix: Mix, count: u32) -> Result<u64, Refusal> {
     }
 }
 
-/// Makes a list, whose head is in both registers, and does so many turns of a mix. Gives a number
-/// that the turns give.
+/// Makes a list, whose head is in both registers, and does `count` turns of a mix. Returns their result.
 fn mixed(mut heap: impl Steps + Drop, mix: Mix, count: u32) -> Result<u64, Refusal> {
     build(&mut heap, LIST, OBJECTS)?;
     turns(&mut heap, mix, count)
 }
 
-/// So many turns of a mix by `Heap::step`, on a heap of its own. Gives a number that they give.
+/// Does `count` turns of a mix by `Heap::step`, on a new heap. Returns their result.
 pub fn run(alloc: Global, mix: Mix, count: u32) -> Result<u64> {
     let heap = Heap::new(alloc, config(alloc, mix)?)?;
     Ok(mixed(heap, mix, count)?)
 }
 
-/// The same by `Book::act`, on a book of its own.
+/// Does the same by `Book::act`, on a new recorded heap.
 pub fn run_book(alloc: Global, mix: Mix, count: u32) -> Result<u64> {
     let book = Book::new(alloc, config(alloc, mix)?)?;
     Ok(mixed(book, mix, count)?)

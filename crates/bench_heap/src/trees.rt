@@ -1,4 +1,4 @@
-//! Trees are made, by steps. Their nodes have layout 1, of two references.
+//! Trees that are made by steps. Their nodes have layout 1, of two references.
 
 use crate::asking::{Steps, THREAD};
 use crate::mixes::WORDS;
@@ -10,8 +10,8 @@ const BRANCH: u32 = 1;
 /// The register of a new node.
 const NEW: u32 = 15;
 
-/// The register of the tree that the last leaf has been put into. Below it, the register of each
-/// number has a whole tree of so many levels above its leaves, or null.
+/// The register of the tree that the last leaf has been put into. The register of each lower number N has a complete
+/// tree of N levels above its leaves, or null.
 const TREE: u32 = 14;
 
 /// The levels of a tree above its leaves.
@@ -23,19 +23,19 @@ const LEAVES: u32 = 8_192;
 /// The registers of a thread.
 const REGISTERS: u32 = 16;
 
-/// A step of the thread.
+/// Does a step of the thread.
 #[inline(always)]
 fn step(heap: &mut impl Steps, step: Step) -> Reply {
     heap.step(THREAD, step)
 }
 
-/// A new node.
+/// Allocates a node in the open buffer.
 fn new_node(heap: &mut impl Steps) -> Reply {
     let (target, layout) = (NEW, BRANCH);
     step(heap, Step::New { target, layout })
 }
 
-/// A new node, in a fresh buffer where the last one is full.
+/// Allocates a node, in a fresh buffer if the last one is full.
 fn branch(heap: &mut impl Steps) -> Result<(), Refusal> {
     if new_node(heap).is_err() {
         step(heap, Step::GiveBack)?;
@@ -45,7 +45,7 @@ fn branch(heap: &mut impl Steps) -> Result<(), Refusal> {
     Ok(())
 }
 
-/// A register's tree becomes a child of the new node.
+/// Makes a register's tree a child of the new node.
 fn hang(heap: &mut impl Steps, field: u32, source: u32) -> Result<(), Refusal> {
     let object = NEW;
     let store = Step::Store {
@@ -57,8 +57,8 @@ fn hang(heap: &mut impl Steps, field: u32, source: u32) -> Result<(), Refusal> {
     Ok(())
 }
 
-/// Puts a node over the whole tree of so many levels that was there and the tree of the last leaf,
-/// as the tree of the last leaf.
+/// Joins the complete tree of `level` levels and the tree of the last leaf by a node above both. The result is the tree
+/// of the last leaf.
 fn join(heap: &mut impl Steps, level: u32) -> Result<(), Refusal> {
     branch(heap)?;
     hang(heap, 0, level)?;
@@ -69,7 +69,7 @@ fn join(heap: &mut impl Steps, level: u32) -> Result<(), Refusal> {
     Ok(())
 }
 
-/// One more leaf of a tree that grows, in whose register its tree is then.
+/// Adds a leaf to a tree, and leaves its tree in the register of its levels.
 fn leaf(heap: &mut impl Steps, number: u32) -> Result<(), Refusal> {
     branch(heap)?;
     let (target, source) = (TREE, NEW);
@@ -83,7 +83,7 @@ fn leaf(heap: &mut impl Steps, number: u32) -> Result<(), Refusal> {
     Ok(())
 }
 
-/// The registers become null.
+/// Makes all registers null.
 fn clear(heap: &mut impl Steps) -> Result<(), Refusal> {
     for register in 0..REGISTERS {
         step(heap, Step::ClearReg(register))?;
@@ -91,7 +91,7 @@ fn clear(heap: &mut impl Steps) -> Result<(), Refusal> {
     Ok(())
 }
 
-/// A tree, in a global.
+/// Makes a tree, in a global.
 fn tree(heap: &mut impl Steps, global: u32) -> Result<(), Refusal> {
     for number in 0..LEAVES {
         leaf(heap, number)?;
@@ -101,7 +101,7 @@ fn tree(heap: &mut impl Steps, global: u32) -> Result<(), Refusal> {
     clear(heap)
 }
 
-/// So many trees of 16,383 objects each, in as many globals.
+/// Makes `count` trees of 16,383 objects each, in as many globals.
 pub fn trees(heap: &mut impl Steps, count: u32) -> Result<(), Refusal> {
     step(heap, Step::Take(WORDS))?;
     for global in 0..count {

@@ -1,4 +1,4 @@
-//! Heaps in which a shape is made, and marked or collected some times; and heaps in which objects are made.
+//! Heaps in which a shape is made, and marked or collected; and heaps in which objects are allocated.
 
 use crate::held::{Marked, new_heap, settle};
 use crate::{lists, meshes};
@@ -15,7 +15,7 @@ pub enum Shape {
     Graph,
 }
 
-/// The shape of a name.
+/// Returns the shape of a name.
 pub fn named(name: &str) -> Option<Shape> {
     match name {
         "list" => Some(Shape::List),
@@ -31,7 +31,7 @@ pub fn named(name: &str) -> Option<Shape> {
 pub enum Turn {
     /// A mark.
     Mark,
-    /// A whole collection.
+    /// A complete collection.
     Collect,
 }
 
@@ -39,16 +39,16 @@ pub enum Turn {
 #[derive(Clone, Copy)]
 pub struct Task {
     pub shape: Shape,
-    /// The objects that are kept.
+    /// The live objects.
     pub count: u32,
     /// The words of an object of a list.
     pub words: u32,
     pub turn: Turn,
-    /// How often that is done.
+    /// How often it is done.
     pub times: u32,
 }
 
-/// The shape is made.
+/// Makes the shape.
 fn build(alloc: Global, heap: &mut impl Holding, task: Task) -> Result<()> {
     match task.shape {
         Shape::List => lists::list(alloc, heap, task.count),
@@ -58,7 +58,7 @@ fn build(alloc: Global, heap: &mut impl Holding, task: Task) -> Result<()> {
     }
 }
 
-/// One mark, or one collection. Gives how many objects live.
+/// Marks or collects once. Returns how many objects are live.
 fn one_turn(alloc: Global, heap: &mut impl Marked, turn: Turn) -> Result<u64, Refusal> {
     match turn {
         Turn::Mark => heap.mark_once(),
@@ -66,7 +66,7 @@ fn one_turn(alloc: Global, heap: &mut impl Marked, turn: Turn) -> Result<u64, Re
     }
 }
 
-/// So many of these. Gives what the last one found, or 0 where there is none.
+/// Does all marks or collections. Returns the result of the last one, or 0 if there is none.
 fn turns(alloc: Global, heap: &mut impl Marked, task: Task) -> Result<u64, Refusal> {
     let mut live = 0;
     for _ in 0..task.times {
@@ -75,14 +75,14 @@ fn turns(alloc: Global, heap: &mut impl Marked, task: Task) -> Result<u64, Refus
     Ok(live)
 }
 
-/// All that is done in one heap.
+/// Does a task in one heap. Returns its result.
 fn work(alloc: Global, mut heap: impl Marked + Drop, task: Task) -> Result<u64> {
     build(alloc, &mut heap, task)?;
     settle(&mut heap)?;
     Ok(turns(alloc, &mut heap, task)?)
 }
 
-/// That is done in each of so many heaps. Gives what the last mark of the last heap found.
+/// Does a task in each of `heaps` new heaps. Returns the result of the last one.
 pub fn run(alloc: Global, task: Task, heaps: u32) -> Result<u64> {
     let mut live = 0;
     for _ in 0..heaps {
@@ -91,24 +91,24 @@ pub fn run(alloc: Global, task: Task, heaps: u32) -> Result<u64> {
     Ok(live)
 }
 
-/// A list of so many objects is made in a heap.
+/// Makes a list in a heap.
 fn kept(alloc: Global, mut heap: impl Holding + Drop, count: u32) -> Result<u64> {
     lists::list(alloc, &mut heap, count)?;
     Ok(u64::from(count))
 }
 
-/// A list of so many objects is made. Gives their number.
+/// Makes a list of `count` objects in a new heap. Returns their number.
 pub fn keep(alloc: Global, words: u32, count: u32) -> Result<u64> {
     kept(alloc, new_heap(alloc, words)?, count)
 }
 
-/// So many objects are made in a heap, which nobody keeps.
+/// Makes garbage objects in a heap.
 fn lost(alloc: Global, mut heap: impl Holding + Drop, count: u32) -> Result<u64> {
     lists::waste(alloc, &mut heap, count)?;
     Ok(u64::from(count))
 }
 
-/// So many objects are made that nobody keeps. Gives their number.
+/// Makes `count` garbage objects in a new heap. Returns their number.
 pub fn lose(alloc: Global, words: u32, count: u32) -> Result<u64> {
     lost(alloc, new_heap(alloc, words)?, count)
 }

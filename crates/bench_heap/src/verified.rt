@@ -1,4 +1,4 @@
-//! Heaps that are verified.
+//! Verifications of heaps.
 
 use crate::asking::Steps;
 use crate::moving::{fill_live, objects_of};
@@ -7,13 +7,13 @@ use heap::Heap;
 use pauseless::{Config, Layout, Layouts, verify};
 use std::alloc::{AllocError, Global};
 
-/// A heap is verified once.
+/// Verifies a heap once.
 fn verify_once(alloc: Global, heap: &Heap) -> Result<(), AllocError> {
     verify(alloc, heap)?;
     Ok(())
 }
 
-/// A heap is verified so many times.
+/// Verifies a heap `times` times.
 fn verify_all(alloc: Global, heap: &Heap, times: u32) -> Result<(), AllocError> {
     for _ in 0..times {
         verify_once(alloc, heap)?;
@@ -21,8 +21,7 @@ fn verify_all(alloc: Global, heap: &Heap, times: u32) -> Result<(), AllocError> 
     Ok(())
 }
 
-/// Pages of so many words are filled with objects of 4 words that live, and the heap is verified so
-/// many times. Gives the number of births.
+/// Fills pages with live objects of 4 words, and verifies the heap. Returns the number of births.
 fn verified(
     alloc: Global,
     mut heap: impl Steps + Drop,
@@ -35,7 +34,7 @@ fn verified(
     Ok(heap.heap().births())
 }
 
-/// What a heap is made with of so many frames of so many words, whose objects have 4 words.
+/// Configures a heap whose objects have 4 words.
 fn config(alloc: Global, words: u32, frames: u32) -> Result<Config> {
     let layouts = Layouts::new(vec![in alloc; Layout { refs: 1, nums: 2 }]?);
     let mut config = Config::new(words, frames, layouts);
@@ -43,8 +42,7 @@ fn config(alloc: Global, words: u32, frames: u32) -> Result<Config> {
     Ok(config)
 }
 
-/// A heap of so many frames of so many words, of which half are full of objects of 4 words that
-/// live, is verified so many times. Gives the number of births.
+/// Verifies a heap `times` times. Half of its frames are full of live objects of 4 words. Returns the number of births.
 pub fn verifications(alloc: Global, words: u32, frames: u32, times: u32) -> Result<u64> {
     let heap = Heap::new(alloc, config(alloc, words, frames)?)?;
     verified(alloc, heap, words, frames / 2, times)
