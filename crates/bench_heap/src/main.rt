@@ -1,5 +1,4 @@
-//! Benches of one thread's heap, which `bench/calls.py` and `bench/boehm.py` time from outside and `bench/pauses.py`
-//! by their parts.
+//! Benches of a heap with one thread, for `bench/calls.py`, `bench/boehm.py` and `bench/pauses.py`.
 //!
 //! `bench/calls.py` times loops over the library's calls. Each work prints a number, its result.
 //!
