@@ -1,0 +1,39 @@
+//! Lists, and garbage objects.
+
+use crate::held::{HEAD, LINK, ME, NODE, make};
+use anyhow::Result;
+use pauseless::Holding;
+use std::alloc::Global;
+
+/// Puts a new object in front of the list.
+#[inline(always)]
+fn push(alloc: Global, heap: &mut impl Holding) -> Result<()> {
+    make(alloc, heap, NODE, LINK)?;
+    heap.store(ME, NODE, 0, HEAD)?;
+    Ok(heap.copy_register(ME, HEAD, NODE)?)
+}
+
+/// Makes a list of `count` objects.
+pub fn list(alloc: Global, heap: &mut impl Holding, count: u32) -> Result<()> {
+    for _ in 0..count {
+        push(alloc, heap)?;
+    }
+    Ok(())
+}
+
+/// Does the same, with a garbage object after each.
+pub fn half(alloc: Global, heap: &mut impl Holding, count: u32) -> Result<()> {
+    for _ in 0..count {
+        push(alloc, heap)?;
+        make(alloc, heap, NODE, LINK)?;
+    }
+    Ok(())
+}
+
+/// Makes `count` garbage objects; a register has the last one.
+pub fn waste(alloc: Global, heap: &mut impl Holding, count: u32) -> Result<()> {
+    for _ in 0..count {
+        make(alloc, heap, NODE, LINK)?;
+    }
+    Ok(())
+}
