@@ -20,7 +20,7 @@ use Rattle.managed.specs.Emptying.{Protects}
 use Rattle.managed.specs.Goings.{Goes, IsScrub, Steps}
 use Rattle.managed.proofs.Gathering.{crossings_collect}
 use Rattle.managed.proofs.Running.{runs_one}
-use Rattle.collecting.specs.declared.parts.LiveWords.{LiveWords}
+use Rattle.collecting.specs.declared.words.LiveWords.{LiveWords}
 use Rattle.collecting.specs.declared.parts.Stage.{Stage}
 use Rattle.collecting.specs.declared.parts.Stage.TheVariants as stages
 use Rattle.collecting.specs.Collections.{WORKER, Collects, EndsLeft}

@@ -15,7 +15,7 @@ use Rattle.model.specs.Tallies.{most_counted}
 use Rattle.managed.specs.Collecting.{Crosses, StopsCrossing}
 use Rattle.managed.specs.Emptying.{Protects}
 use Rattle.managed.specs.Goings.{Goes, IsScrub}
-use Rattle.collecting.specs.declared.parts.LiveWords.{LiveWords}
+use Rattle.collecting.specs.declared.words.LiveWords.{LiveWords}
 use Rattle.collecting.specs.declared.parts.Stage.{Stage}
 use Rattle.collecting.specs.declared.parts.Stage.TheVariants as stages
 use Rattle.collecting.specs.Collections.{WORKER, Collects, LeftPage}

@@ -13,13 +13,14 @@ ghost use Rattle.collecting.specs.Parts.{EndsPart, HasEnded, is_memory};
 ghost use Rattle.collecting.specs.Stages.{ChoosesAll, EmptiesOn, EndsCrossed, GoesOn, IsChosen, MarksOn, Measures};
 ghost use Rattle.collecting.specs.Stages.{MeasuresOn, PartGoesOn, PreparesOn, PreparesSome, ProtectsSome, TellsAnew};
 ghost use Rattle.collecting.specs.Stages.{at_stage, entered, first_parts, is_preparing, measured_one, no_words};
-ghost use Rattle.collecting.specs.Stages.{pages_in, passed, preparing, preparings, with_copied, with_live};
+ghost use Rattle.collecting.specs.Stages.{pages_in, passed, preparing, preparings, with_copied};
 ghost use Rattle.collecting.specs.declared.parts.Stage.TheVariants as stages;
 
 use crate::chosen::{dead_count, fitting, most_of};
 use crate::low::in_use;
 use crate::portions::{cross, empty_one, mark_some, may_start_mark, protect};
 use crate::preparing::{first_words, frames_by, frames_for, parts_for, prepare_some};
+use crate::words::LiveWords;
 use choosing::measure_page;
 use heap::Heap;
 use managed::ManagedHeap;
@@ -36,15 +37,6 @@ enum Stage {
     Empty,
 }
 
-/// How many words live objects have, as a collection in parts has measured them.
-#[derive(Clone, Copy, Debug, PartialEq, Eq)]
-pub(crate) struct LiveWords {
-    /// Those on the pages that were measured.
-    pub all: u64,
-    /// Those on the pages that were chosen, which are copied.
-    pub copied: u64,
-}
-
 /// How far a collection in parts has come. A program keeps one alongside its heap. It is advice alone: each part
 /// tests on the heap what may be done, so a complete collection may come between two parts.
 #[derive(Drop)]
@@ -58,6 +50,7 @@ pub struct Parts {
     next: u32,
     /// How many frames are to be prepared.
     frames: u32,
+    /// How many words live on the pages that were measured, and on those that were chosen.
     words: LiveWords,
 }
 
@@ -87,7 +80,7 @@ impl Parts {
             chosen: Vec::new(alloc),
             next: 0,
             frames: 0,
-            words: LiveWords { all: 0, copied: 0 },
+            words: LiveWords::none(),
         }
     }
 
@@ -170,7 +163,7 @@ impl Parts {
     fn begin_choosing(&mut self)
         ensures { self.new ≡ at_stage stages.Choose self.old.chosen no_words }
     {
-        self.words = LiveWords { all: 0, copied: 0 };
+        self.words = LiveWords::none();
         self.begin(Stage::Choose);
     }
 
@@ -207,13 +200,6 @@ impl Parts {
         self.next = next;
     }
 
-    /// Adds live words of a page that was measured.
-    fn add_live(&mut self, live: u64)
-        ensures { self.new ≡ record self.old { words = with_live live self.old.words } }
-    {
-        self.words.all = self.words.all.saturating_add(live);
-    }
-
     /// Measures the next page.
     fn measure_next(&mut self, heap: &Heap, percent: u32) -> Result<(), AllocError>
         requires { self.old.next < heap.now.store.count }
@@ -222,7 +208,7 @@ impl Parts {
         let _count = heap.memory().page_count();
         let page = self.next + 1;
         let measure = measure_page(heap, percent, page);
-        self.add_live(measure.live);
+        self.words.add(measure.live);
         match measure.sparse {
             Some(found) => self.enter(found, page),
             None => {

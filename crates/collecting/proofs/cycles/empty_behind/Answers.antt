@@ -1,4 +1,4 @@
-use Rattle.std.proofs.Common.{◌≡◌, ◌∙◌, ap, subst}
+use Rattle.std.proofs.Common.{◌∙◌, ap, subst}
 use Rattle.choosing.specs.Choices.{IsChoice, all_words, words_on}
 use Rattle.model.specs.States.{HeapState}
 use Rattle.collecting.proofs.Collections.{behind_ends, behind_lacks}
