@@ -164,9 +164,12 @@ typedef struct pauseless_object {
     uint16_t refs, nums;
 } pauseless_object;
 
-/* The result of a collection: how many live objects it found, and how many pages it emptied. */
+/* The result of a collection. */
 typedef struct pauseless_collected {
-    uint64_t live, emptied;
+    uint64_t live;       /* the live objects that it found, */
+    uint64_t live_words; /* and their words, right after its mark */
+    uint64_t emptied;    /* the pages that it emptied, */
+    uint64_t copied;     /* and the words that it copied: those of their live objects */
 } pauseless_collected;
 
 /* The sizes of a heap, and its births and free frames. */
@@ -182,6 +185,8 @@ typedef struct pauseless_counts {
 typedef struct pauseless_statistics {
     uint64_t births; /* the objects that were born */
     uint64_t live;   /* the live ones that the last complete collection has found */
+    uint64_t live_words; /* the words that live objects had after the mark of the last collection, complete or in parts,
+                          * that has chosen pages */
     uint64_t by_calls;  /* complete collections that have begun: requested by pauseless_collect; */
     uint64_t by_policy; /* for a fresh buffer, as at most policy.free frames were free; */
     uint64_t by_room;   /* for a fresh buffer, as there was no space for one */
@@ -190,6 +195,8 @@ typedef struct pauseless_statistics {
     uint64_t parts;     /* the parts that were done, by pauseless_collect_some or for a fresh buffer */
     uint64_t ended_in_parts; /* collections in parts that have ended */
     uint64_t emptied;        /* the pages that collections have emptied */
+    uint64_t copied; /* the words that collections have copied; those of a collection in parts count once its pages are
+                      * protected */
     uint64_t loads;  /* loads of references that have begun, by all threads; */
     uint64_t moved;  /* of these, how many got an object's new place; */
     uint64_t marked; /* how many marked their object; */

@@ -60,6 +60,10 @@ static void by_calls(void) {
     SAME(after.by_policy + after.by_room, 0);
     SAME(after.live, 2);
     SAME(after.live, done.live);
+    SAME(done.live_words, 6);
+    SAME(after.live_words, 6);
+    SAME(done.copied, 6);
+    SAME(after.copied, 6);
     SAME(after.emptied, done.emptied);
     SAME(after.most_used, 3);
     SAME(after.used < after.most_used, true);
@@ -144,6 +148,8 @@ static void in_parts(void) {
     SAME(after.parts, parts);
     SAME(after.by_parts, 1);
     SAME(after.ended_in_parts, 1);
+    SAME(after.live_words, 3);
+    SAME(after.copied, 0);
     for (int i = 0; i < 1000; i++) DONE(pauseless_make(&heap, &paced, 1, 0, 0));
     after = now();
     SAME(after.parts > parts, true);

@@ -1,17 +1,18 @@
 -- Live words are added up, object by object, and sparse pages listed, page by page.
 use Rattle.std.proofs.Common.{◌≡◌, ℕ, zero, suc, ◌+◌, ◌-◌, ◌<◌, ◌≤◌, Bool, true, false, List, [], ◌∷◌, ◌++◌}
-use Rattle.std.proofs.Common.{length, get_or, refl, sym, ap, ◌∙◌, subst, arith, Some, None}
+use Rattle.std.proofs.Common.{length, get_or, min, refl, sym, ap, ◌∙◌, subst, arith, Some, None}
 use Rattle.std.proofs.Common.{if◌then◌else◌}
 use Rattle.std.specs.List.{All, slice_get, sum_by}
 use Rattle.std.proofs.lemmas.Bool.{true≢false}
 use Rattle.std.proofs.lemmas.Option.{same_Some}
-use Rattle.std.proofs.lemmas.List.Sums.{sum_by-cons}
+use Rattle.std.proofs.lemmas.List.Sums.{sum_by-cons, sum_by_push}
 use Rattle.std.proofs.lemmas.List.Elements.{All-append, All-cons, All-nil}
 use Rattle.model.specs.States.{HeapState}
 use Rattle.model.specs.Plans.{offsets_from, live_offsets}
+use Rattle.model.specs.Tallies.{most_counted}
 use Rattle.model.proofs.OfPages.{of_page_none, of_page_some}
 use Rattle.choosing.specs.Choices.{ArePages, is_sparse, live_words, measured, measured_if, size_on, sparse_to}
-use Rattle.choosing.specs.Choices.{sparse_pages}
+use Rattle.choosing.specs.Choices.{sparse_pages, words_in_use, words_on, words_to}
 
 -- one more object is added to the total
 pub total_next : (f : ℕ → ℕ) (left rest : List ℕ) (k total new whole : ℕ) → left ≡ k ∷ rest → total + sum_by f left
@@ -70,6 +71,20 @@ sparse_same h percent i found is so = by (is_sparse h percent (i + 1)) refl is
     by false e at = so ∙ sym (next_is h percent i ∙ ap (λ (c : Bool). if c then sparse_to h percent i ++ measured h
         (i + 1) ∷ [] else sparse_to h percent i) e)
 
+-- one more page was measured
+pub words_more : (h : HeapState) (i total live new : ℕ) → live ≡ words_in_use h (i + 1) → total ≡ words_to h i
+    → new ≡ total + live → new ≡ words_to h (i + 1)
+words_more h i total live new is so more =
+    let at : suc i ≡ i + 1 = omega arith in
+    more ∙ ap (λ (n : ℕ). n + live) so ∙ ap (λ (n : ℕ). words_to h i + n) is
+    ∙ subst (λ (k : ℕ). words_to h i + words_in_use h k ≡ words_to h k) at refl
+
+-- one more page was chosen
+pub words_next : (h : HeapState) (n live words new : ℕ) (ns ms : List ℕ) → live ≡ live_words h n
+    → words ≡ words_on h ns → new ≡ min (words + live) most_counted → ms ≡ ns ++ n ∷ [] → new ≡ words_on h ms
+words_next h n live words new ns ms is so more next =
+    omega (arith, is, so, more, sum_by_push (live_words h) ns n, ap (sum_by (live_words h)) next)
+
 -- each of them is a page
 pages_to : (h : HeapState) (percent n : ℕ) → n ≤ h.store.count → All (ArePages h) (sparse_to h percent n)
 pages_to h percent zero few = All-nil (ArePages h)
@@ -78,7 +93,7 @@ pages_to h percent (suc n) few = by (is_sparse h percent (suc n)) (pages_to h pe
     by : (b : Bool) → All (ArePages h) (sparse_to h percent n)
         → All (ArePages h) (if b then sparse_to h percent n ++ measured h (suc n) ∷ [] else sparse_to h percent n)
     by true rest = All-append (ArePages h) (sparse_to h percent n) (measured h (suc n) ∷ []) rest
-        (All-cons (ArePages h) (measured h (suc n)) [] (omega arith, few) (All-nil (ArePages h)))
+        (All-cons (ArePages h) (measured h (suc n)) [] (omega arith, few, refl) (All-nil (ArePages h)))
     by false rest = rest
 
 pub all_pages : (h : HeapState) (percent : ℕ) → All (ArePages h) (sparse_pages h percent)

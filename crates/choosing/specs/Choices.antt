@@ -1,13 +1,14 @@
 -- The relocation set: which pages are chosen to be emptied.
-use Rattle.std.specs.Prelude.{◌≡◌, ◌≤◌, ◌<◌, ℕ, zero, suc, ◌+◌, ◌*◌, ◌&&◌, Bool, true, false, List, [], ◌∷◌, ◌++◌}
-use Rattle.std.specs.Prelude.{length, map, take, nat_le}
+use Rattle.std.specs.Prelude.{◌≡◌, ◌≤◌, ◌<◌, ℕ, zero, suc, ◌+◌, ◌*◌, ◌&&◌, not, Bool, true, false, List, [], ◌∷◌}
+use Rattle.std.specs.Prelude.{◌++◌, length, map, min, take, nat_le}
 use Rattle.std.specs.Prelude.{Option, Some, None, if◌then◌else◌, IsPermutation, IsSorted}
 use Rattle.std.specs.List.{sum_by}
 use Rattle.std.specs.Ordering.{nat_cmp, ordering_then}
 use Rattle.model.specs.States.{HeapState}
-use Rattle.model.specs.Stores.{state_at}
+use Rattle.model.specs.Stores.{state_at, has_memory, is_protected}
 use Rattle.model.specs.Plans.{live_offsets, object_words, plan_of, target_count}
 use Rattle.model.specs.Protections.{is_closed, free_count, unused_count}
+use Rattle.model.specs.Tallies.{most_counted}
 
 -- the number of words of the object at an offset of page n
 abbrev pub size_on : HeapState → ℕ → ℕ → ℕ
@@ -20,6 +21,27 @@ sizes_on h n = map (size_on h n) (live_offsets h n)
 -- the number of live words of page n
 abbrev pub live_words : HeapState → ℕ → ℕ
 live_words h n = sum_by (size_on h n) (live_offsets h n)
+
+-- the number of live words of pages, up to the greatest number that is counted to
+abbrev pub words_on : HeapState → List ℕ → ℕ
+words_on h ns = min (sum_by (live_words h) ns) most_counted
+
+-- page n has memory, and isn't protected
+abbrev pub is_in_use : HeapState → ℕ → Bool
+is_in_use h n = has_memory (state_at h.store n) && not (is_protected (state_at h.store n))
+
+-- the number of live words of page n if it is in use, else 0
+abbrev pub words_in_use : HeapState → ℕ → ℕ
+words_in_use h n = if is_in_use h n then live_words h n else 0
+
+-- the number of live words of those of pages 1 to n that are in use
+abbrev pub words_to : HeapState → ℕ → ℕ
+words_to h zero = 0
+words_to h (suc n) = words_to h n + words_in_use h (suc n)
+
+-- the number of live words of all pages that are in use
+abbrev pub all_words : HeapState → ℕ
+all_words h = words_to h h.store.count
 
 abbrev pub is_closed_at : HeapState → ℕ → Bool
 is_closed_at h n = is_closed (state_at h.store n)
@@ -49,9 +71,9 @@ sparse_pages h percent = sparse_to h percent h.store.count
 abbrev pub page_of : ℕ × ℕ → ℕ
 page_of p = p.1
 
--- it is the number of a page of the heap
+-- it is a page of the heap, with its number of live words before it
 abbrev pub ArePages : HeapState → ℕ × ℕ → Type 0
-ArePages h p = (0 < p.1) × (p.1 ≤ h.store.count)
+ArePages h p = (0 < p.1) × (p.1 ≤ h.store.count) × (p.0 ≡ live_words h p.1)
 
 -- by live words, and by number if these are equal
 abbrev pub IsRising : List (ℕ × ℕ) → Type 0

@@ -3,7 +3,7 @@
 ghost use Rattle.std.specs.Prelude.{◌≡◌, map, min, IfOk};
 ghost use Rattle.std.specs.List.{All};
 ghost use Rattle.model.specs.Protections.{free_count, unused_count};
-ghost use Rattle.choosing.specs.Choices.{ArePages, IsChoice, IsLongest, page_of};
+ghost use Rattle.choosing.specs.Choices.{ArePages, IsChoice, IsLongest, all_words, page_of, words_on};
 
 use crate::packing::{first_packing, pack_page};
 use crate::sparse::sparse;
@@ -20,24 +20,64 @@ pub fn room(heap: &Heap) -> u32
     if frames < pages { frames } else { pages }
 }
 
+/// A choice of pages, with what was measured for it.
+#[derive(Drop)]
+pub struct Choice {
+    /// The chosen pages.
+    pub pages: Vec<u32>,
+    /// How many words their live objects have.
+    pub words: u64,
+    /// How many words the live objects of all pages have that have memory and aren't protected.
+    pub live_words: u64,
+}
+
 /// Returns the longest prefix of pages, each with its live words before it, for whose plan there is space. Fails only
 /// if out of memory.
-fn cut(alloc: Global, heap: &Heap, pages: &[(u64, u32)]) -> Result<Vec<u32>, AllocError>
+fn cut(
+    alloc: Global,
+    heap: &Heap,
+    pages: &[(u64, u32)],
+    live_words: u64,
+) -> Result<Choice, AllocError>
     requires { All (ArePages heap.now) pages.now }
-    ensures { IfOk result (λ chosen. IsLongest heap.now (map page_of pages.now) chosen.items) }
+    ensures pages { IfOk result (λ choice. IsLongest heap.now (map page_of pages.now) choice.pages.items) }
+    ensures words { IfOk result (λ choice. choice.words ≡ words_on heap.now choice.pages.items) }
+    ensures live { IfOk result (λ choice. choice.live_words ≡ live_words) }
 {
     let room = room(heap);
     let mut chosen = Vec::new(alloc);
+    let mut words = 0u64;
     let mut packing = first_packing();
     for index in 0..pages.len() {
         let page = pages[index].1;
         packing = pack_page(heap, page, packing);
         if packing.count > u64::from(room) {
-            return Ok(chosen);
+            return Ok(Choice {
+                pages: chosen,
+                words,
+                live_words,
+            });
         }
         chosen.push(page)?;
+        words = words.saturating_add(pages[index].0);
     }
-    Ok(chosen)
+    Ok(Choice {
+        pages: chosen,
+        words,
+        live_words,
+    })
+}
+
+/// Chooses pages as `choose` does, and returns how many words live with them. It reads the header of each live object
+/// once for its size, and once more for its place if its page is sparse.
+pub fn choose_measured(alloc: Global, heap: &Heap, percent: u32) -> Result<Choice, AllocError>
+    ensures pages { IfOk result (λ choice. IsChoice heap.now percent choice.pages.items) }
+    ensures words { IfOk result (λ choice. choice.words ≡ words_on heap.now choice.pages.items) }
+    ensures live { IfOk result (λ choice. choice.live_words ≡ all_words heap.now) }
+{
+    let mut found = sparse(alloc, heap, percent)?;
+    found.pages.sort()?;
+    cut(alloc, heap, &found.pages, found.live_words)
 }
 
 /// Returns the relocation set: the closed pages of which at most a percentage of the words is live, by rising numbers
@@ -46,7 +86,6 @@ fn cut(alloc: Global, heap: &Heap, pages: &[(u64, u32)]) -> Result<Vec<u32>, All
 pub fn choose(alloc: Global, heap: &Heap, percent: u32) -> Result<Vec<u32>, AllocError>
     ensures { IfOk result (λ pages. IsChoice heap.now percent pages.items) }
 {
-    let mut found = sparse(alloc, heap, percent)?;
-    found.sort()?;
-    cut(alloc, heap, &found)
+    let choice = choose_measured(alloc, heap, percent)?;
+    Ok(choice.pages)
 }

@@ -6,6 +6,6 @@ mod choosing;
 mod packing;
 mod sparse;
 
-pub use choosing::{choose, room};
+pub use choosing::{Choice, choose, choose_measured, room};
 pub use packing::{Packing, first_packing, packed_page};
-pub use sparse::measured;
+pub use sparse::{Measure, measure_page};

@@ -3,7 +3,8 @@
 ghost use Rattle.std.specs.Prelude.{◌≡◌, ◌<◌, ◌≤◌, ◌*◌, length, IfOk};
 ghost use Rattle.std.specs.List.{sum_by};
 ghost use Rattle.model.specs.Plans.{offsets_from};
-ghost use Rattle.choosing.specs.Choices.{is_closed_at, live_words, measured_if, size_on, sparse_pages};
+ghost use Rattle.choosing.specs.Choices.{all_words, is_closed_at, is_in_use, live_words, measured_if, size_on};
+ghost use Rattle.choosing.specs.Choices.{sparse_pages, words_in_use};
 
 use heap::{Heap, Row};
 use model::PageState;
@@ -49,17 +50,25 @@ fn is_closed(heap: &Heap, page: u32) -> bool
     matches!(heap.memory().state(page), PageState::Closed)
 }
 
-/// Returns a page, by its number from 1, with its number of live words before it, if it is closed and at most a
-/// percentage of its words is live; else `None`. Reads no headers but those of that page's live objects.
-#[tactic(auto, using(crate::proofs::Numbered::closed_low, crate::proofs::Numbered::closed_high))]
-pub fn measured(heap: &Heap, percent: u32, page: u32) -> Option<(u64, u32)>
+/// Returns whether a page has memory, and isn't protected.
+fn is_in_use(heap: &Heap, page: u32) -> bool
+    ensures { result ≡ is_in_use heap.now page }
+{
+    matches!(
+        heap.memory().state(page),
+        PageState::Open | PageState::Closed
+    )
+}
+
+/// Returns a page with its live words before it, if it is closed and at most `percent` words of a hundred are live.
+fn if_sparse(heap: &Heap, percent: u32, page: u32, live: u64) -> Option<(u64, u32)>
+    requires value { live ≡ live_words heap.now page }
+    requires range { live ≤ 131071 * 32768 }
     ensures { result ≡ measured_if heap.now percent page }
 {
-    heap.law();
     if !is_closed(heap, page) {
         return None;
     }
-    let live = live_words(heap, page);
     let words = heap.memory().page_words();
     if live * 100 <= u64::from(percent) * u64::from(words) {
         Some((live, page))
@@ -68,21 +77,60 @@ pub fn measured(heap: &Heap, percent: u32, page: u32) -> Option<(u64, u32)>
     }
 }
 
-/// Returns the closed pages of which at most a percentage of the words is live, each with its number of live words
-/// before it, by rising page numbers. Fails only if out of memory.
-#[tactic(auto, using(crate::proofs::Sums::sparse_more, crate::proofs::Sums::sparse_same))]
-pub(crate) fn sparse(
-    alloc: Global,
-    heap: &Heap,
-    percent: u32,
-) -> Result<Vec<(u64, u32)>, AllocError>
-    ensures { IfOk result (λ found. found.items ≡ sparse_pages heap.now percent) }
+/// What was measured of a page.
+#[derive(Clone, Copy, Debug, PartialEq, Eq)]
+pub struct Measure {
+    /// How many words its live objects have, if it has memory and isn't protected; else 0.
+    pub live: u64,
+    /// The page with its live words before it, if it is closed and few enough of its words are live.
+    pub sparse: Option<(u64, u32)>,
+}
+
+/// Measures a page, by its number from 1: it is sparse if it is closed and at most `percent` words of a hundred are
+/// live. Reads the headers of the live objects of that page alone.
+#[tactic(auto, using(crate::proofs::Numbered::unused_dense))]
+pub fn measure_page(heap: &Heap, percent: u32, page: u32) -> Measure
+    ensures live { result.live ≡ words_in_use heap.now page }
+    ensures sparse { result.sparse ≡ measured_if heap.now percent page }
+    ensures range { result.live ≤ 131071 * 32768 }
 {
-    let mut found = Vec::new(alloc);
+    heap.law();
+    if !is_in_use(heap, page) {
+        return Measure {
+            live: 0,
+            sparse: None,
+        };
+    }
+    let live = live_words(heap, page);
+    Measure {
+        live,
+        sparse: if_sparse(heap, percent, page, live),
+    }
+}
+
+/// The sparse pages of a heap, and its live words.
+#[derive(Drop)]
+pub(crate) struct Found {
+    /// The closed pages of which few enough words are live, by their numbers, each with its live words before it.
+    pub pages: Vec<(u64, u32)>,
+    /// How many words the live objects of all pages have that have memory and aren't protected.
+    pub live_words: u64,
+}
+
+/// Measures all pages.
+#[tactic(auto, using(crate::proofs::Sums::sparse_more, crate::proofs::Sums::sparse_same, crate::proofs::Sums::words_more))]
+pub(crate) fn sparse(alloc: Global, heap: &Heap, percent: u32) -> Result<Found, AllocError>
+    ensures pages { IfOk result (λ found. found.pages.items ≡ sparse_pages heap.now percent) }
+    ensures words { IfOk result (λ found. found.live_words ≡ all_words heap.now) }
+{
+    let mut pages = Vec::new(alloc);
+    let mut live_words = 0u64;
     for index in 0..heap.memory().page_count() {
-        if let Some(page) = measured(heap, percent, index + 1) {
-            found.push(page)?;
+        let measure = measure_page(heap, percent, index + 1);
+        live_words += measure.live;
+        if let Some(page) = measure.sparse {
+            pages.push(page)?;
         }
     }
-    Ok(found)
+    Ok(Found { pages, live_words })
 }

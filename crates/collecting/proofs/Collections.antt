@@ -6,7 +6,7 @@ use Rattle.std.specs.List.{slice_get}
 use Rattle.std.proofs.lemmas.Bool.{cases_eq, cases_lt}
 use Rattle.std.proofs.lemmas.Bool.Decides.{nat_tests}
 use Rattle.std.proofs.lemmas.Option.{slice_get_within}
-use Rattle.choosing.specs.Choices.{IsChoice}
+use Rattle.choosing.specs.Choices.{IsChoice, all_words, words_on}
 use Rattle.model.specs.declared.records.Page.{Page}
 use Rattle.model.specs.declared.records.Phase.TheVariants.{Idle}
 use Rattle.model.specs.declared.steps.Actor.TheVariants.{Worker}
@@ -32,7 +32,7 @@ use Rattle.managed.proofs.Gathering.{collected, crossings_collect}
 use Rattle.collecting.specs.declared.collecting.Collected.{Collected}
 use Rattle.collecting.specs.Collections.{MarksWhole}
 use Rattle.collecting.specs.Collections.{WORKER, Collects, EndsLeft, EndsLeftPages, EndsSettling, EndsDue, has_from}
-use Rattle.collecting.specs.Collections.{EndsDueMark, EndsChosen, EndsSparse}
+use Rattle.collecting.specs.Collections.{EndsDueMark, EndsChosen, EndsChoice}
 use Rattle.collecting.specs.Collections.{EndsBehind, EndsCycle, CollectsWhole}
 
 pub none : (h : HeapState) → Collects h h
@@ -176,23 +176,25 @@ pub chosen_stops : (h g : HeapState) (ns : List ℕ) (r : Result Unit Refusal) (
     → EndsEmptying WORKER h ns r g → EndsChosen h ns (Err e) g
 chosen_stops h g ns r e is a b = (a, subst (λ (x : Result Unit Refusal). EndsEmptying WORKER h ns x g) is b)
 
-pub sparse_then : (percent : ℕ) (h g : HeapState) (ns : List ℕ) (r : Result ℕ Refusal) → IsChoice h percent ns
-    → EndsChosen h ns r g → EndsSparse percent h r g
-sparse_then percent h g ns (Ok k) c b = (b.0, (ns, c, b.1, b.2))
-sparse_then percent h g ns (Err e) c b = (b.0, inr (ns, c, b.1))
+pub choice_ends : (live live_words copied k : ℕ) (h g : HeapState) (ns : List ℕ) (r : Result ℕ Refusal) → r ≡ Ok k
+    → EndsChosen h ns r g → EndsChoice live live_words copied h ns
+    (Ok (record { live = live; live_words = live_words; emptied = k; copied = copied })) g
+choice_ends live live_words copied k h g ns r is b =
+    (refl, refl, refl, subst (λ (x : Result ℕ Refusal). EndsChosen h ns x g) is b)
 
-pub sparse_lacks : (percent : ℕ) (h : HeapState) → EndsSparse percent h (Err refusals.Memory) h
-sparse_lacks percent h = (none h, inl (refl, refl))
+pub choice_stops : (live live_words copied : ℕ) (h g : HeapState) (ns : List ℕ) (r : Result ℕ Refusal) (e : Refusal)
+    → r ≡ Err e → EndsChosen h ns r g → EndsChoice live live_words copied h ns (Err e) g
+choice_stops live live_words copied h g ns r e is b = subst (λ (x : Result ℕ Refusal). EndsChosen h ns x g) is b
 
-pub behind_ends : (percent live k : ℕ) (h g : HeapState) (r : Result ℕ Refusal) → r ≡ Ok k → EndsSparse percent h r g
-    → EndsBehind percent live h (Ok (record { live = live; emptied = k })) g
-behind_ends percent live k h g r is b =
-    let e : EndsSparse percent h (Ok k) g = subst (λ (x : Result ℕ Refusal). EndsSparse percent h x g) is b in
-    (refl, e.0, e.1)
+pub behind_ends : (percent live live_words copied : ℕ) (h g : HeapState) (ns : List ℕ) (r : Result Collected Refusal)
+    → IsChoice h percent ns → copied ≡ words_on h ns → live_words ≡ all_words h
+    → EndsChoice live live_words copied h ns r g → EndsBehind percent live h r g
+behind_ends percent live live_words copied h g ns (Ok r) c moved all b =
+    (b.0, b.3.0, (ns, c, b.3.1, b.3.2, b.2 ∙ moved, b.1 ∙ all))
+behind_ends percent live live_words copied h g ns (Err e) c moved all b = (b.0, inr (ns, c, b.1))
 
-pub behind_stops : (percent live : ℕ) (h g : HeapState) (r : Result ℕ Refusal) (e : Refusal) → r ≡ Err e
-    → EndsSparse percent h r g → EndsBehind percent live h (Err e) g
-behind_stops percent live h g r e is b = subst (λ (x : Result ℕ Refusal). EndsSparse percent h x g) is b
+pub behind_lacks : (percent live : ℕ) (h : HeapState) → EndsBehind percent live h (Err refusals.Memory) h
+behind_lacks percent live h = (none h, inl (refl, refl))
 
 -- ---- all of it
 

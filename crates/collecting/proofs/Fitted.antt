@@ -23,7 +23,7 @@ use Rattle.choosing.specs.declared.packing.Packing.{Packing}
 use Rattle.choosing.specs.Choices.{IsRising, has_room_for, page_of, size_on, sizes_on}
 use Rattle.choosing.specs.Packings.{has_page_for, pack, pack_if, pack_one}
 use Rattle.choosing.proofs.Cuts.{IsBeginning, behind, goes_on, is_cut, is_whole, room_in}
-use Rattle.collecting.specs.Stages.{IsChosen, IsFitting, dead_count, emptied_of}
+use Rattle.collecting.specs.Stages.{IsChosen, IsFitting, dead_count, emptied_of, found_words}
 
 -- ---- sizes
 
@@ -175,6 +175,7 @@ fits_none h ps i d xs s o store l b told is =
 
 -- ---- the choice
 
-pub is_chosen : (h : HeapState) (found ps : List (ℕ × ℕ)) (ns xs : List ℕ) → IsPermutation found ps → IsRising ps
-    → IsFitting h (map page_of ps) ns → xs ≡ take (emptied_of (dead_count ps) (length ns)) ns → IsChosen h found xs
-is_chosen h found ps ns xs same rising fits is = (ps, ns, same, rising, fits, is)
+pub is_chosen : (h : HeapState) (found ps : List (ℕ × ℕ)) (ns xs : List ℕ) (copied : ℕ) → IsPermutation found ps
+    → IsRising ps → IsFitting h (map page_of ps) ns → xs ≡ take (emptied_of (dead_count ps) (length ns)) ns
+    → copied ≡ found_words (take (length xs) ps) → IsChosen h found xs copied
+is_chosen h found ps ns xs copied same rising fits is moved = (ps, ns, same, rising, fits, is, moved)

@@ -72,7 +72,7 @@ paced_more k all free percent budget p o q h m g (Err e) before few on ends part
 pub counted_more : (k : ℕ) (all : Bool) (free percent budget : ℕ) (p o q : PartsState) (h m g : HeapState)
     (old c new : Counters) (r : Result Bool Refusal) → CountedBy k all free percent budget p h old o m c
     → k < most_parts all free budget o m → stops r ≡ false → PartGoesOn percent budget o m r q g
-    → new ≡ part_counted o m r c → CountedBy (k + 1) all free percent budget p h old q g new
+    → new ≡ part_counted o m r q c → CountedBy (k + 1) all free percent budget p h old q g new
 counted_more k all free percent budget p o q h m g old c new (Ok false) before few on part is =
     let next : suc k ≡ k + 1 = omega arith in
     subst (λ (i : ℕ). CountedBy i all free percent budget p h old q g new) next (o, m, c, before, few, part, is)

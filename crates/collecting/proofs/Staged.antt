@@ -20,13 +20,14 @@ use Rattle.managed.specs.Emptying.{Protects}
 use Rattle.managed.specs.Goings.{Goes, IsScrub, Steps}
 use Rattle.managed.proofs.Gathering.{crossings_collect}
 use Rattle.managed.proofs.Running.{runs_one}
+use Rattle.collecting.specs.declared.words.LiveWords.{LiveWords}
 use Rattle.collecting.specs.declared.parts.Stage.{Stage}
 use Rattle.collecting.specs.declared.parts.Stage.TheVariants as stages
 use Rattle.collecting.specs.Collections.{WORKER, Collects, EndsLeft}
 use Rattle.collecting.specs.Parts.{EndsCrossing, EndsPortion, EndsProtecting, EndsStage, Stops, StopsAt}
 use Rattle.collecting.specs.Parts.{is_memory}
 use Rattle.collecting.specs.Parts.{Crossing, Emptying}
-use Rattle.collecting.specs.Stages.{PartsState, at_stage, passed, EndsMarking, MarksOn, TellsAnew, EndsCrossed}
+use Rattle.collecting.specs.Stages.{PartsState, at_stage, no_words, passed, with_copied, EndsMarking, MarksOn, TellsAnew, EndsCrossed}
 use Rattle.collecting.specs.Stages.{ProtectsSome, ProtectsOn, ChoosesAll, IsChosen}
 use Rattle.collecting.specs.Stages.{PreparesIf, PreparesOn, PreparesSome}
 use Rattle.collecting.specs.Stages.{EmptiesOn, EndsOne, GoesOnIn, GoesOn, PartGoesOn}
@@ -36,7 +37,7 @@ use Rattle.collecting.proofs.Collections.{none, and_then}
 -- ---- marks
 
 pub marks_ended : (p q : PartsState) (h g : HeapState) (s : Result Bool Refusal) → s ≡ Ok true → EndsMarking h s g
-    → q ≡ at_stage stages.Choose p.chosen → MarksOn p h (Ok false) q g
+    → q ≡ at_stage stages.Choose p.chosen no_words → MarksOn p h (Ok false) q g
 marks_ended p q h g s is k new =
     let m : EndsMarking h (Ok true) g = subst (λ (x : Result Bool Refusal). EndsMarking h x g) is k in
     (refl, m.0, inr (new, m.1))
@@ -95,7 +96,7 @@ pub one_stops : (h g : HeapState) (n : ℕ) (c : Result Unit Refusal) (e : Refus
 one_stops h g n c e is k = stopped_crossing h g e (crossed_stops h g c e is k)
 
 pub empties_none : (p q : PartsState) (h : HeapState) (o : Option ℕ) → o ≡ slice_get p.chosen p.next → o ≡ None
-    → q ≡ at_stage stages.Mark p.chosen → EmptiesOn p h (Ok true) q h
+    → q ≡ at_stage stages.Mark p.chosen p.words → EmptiesOn p h (Ok true) q h
 empties_none p q h o told is new = inl (sym told ∙ is, new, refl)
 
 pub empties_next : (p q : PartsState) (h g : HeapState) (o : Option ℕ) (n : ℕ) (r : Result Unit Refusal) (u : Unit {0})
@@ -132,22 +133,22 @@ protect_ends h g ns (Ok x) a is does keeps =
 
 pub protected_then : (ns : List ℕ) (p q : PartsState) (h m g : HeapState) (s : Result Unit Refusal) (u : Unit {0})
     (r : Result Bool Refusal) → s ≡ Ok u → EndsProtecting h ns s m → p.chosen ≡ ns
-    → q ≡ at_stage stages.Empty p.chosen → EndsCrossed m r g → ProtectsSome ns h r q g
+    → q ≡ at_stage stages.Empty p.chosen p.words → EndsCrossed m r g → ProtectsSome ns p.words h r q g
 protected_then ns p q h m g s u r is k same new c = by_result r c
   where
     first : Protects WORKER h ns m
     first = subst (λ (x : Result Unit Refusal). EndsProtecting h ns x m) is k
 
-    at : q ≡ at_stage stages.Empty ns
-    at = new ∙ ap (at_stage stages.Empty) same
+    at : q ≡ at_stage stages.Empty ns p.words
+    at = new ∙ ap (λ (xs : List ℕ). at_stage stages.Empty xs p.words) same
 
-    by_result : (r : Result Bool Refusal) → EndsCrossed m r g → ProtectsSome ns h r q g
+    by_result : (r : Result Bool Refusal) → EndsCrossed m r g → ProtectsSome ns p.words h r q g
     by_result (Ok b) c = (c.0, inl (at, (m, first, c.1)))
     by_result (Err e) c = inr (at, (m, first, c))
 
 pub protected_not : (ns : List ℕ) (p q : PartsState) (h g : HeapState) (s : Result Unit Refusal) (e : Refusal)
     (r : Result Bool Refusal) → s ≡ Err e → EndsProtecting h ns s g → p.chosen ≡ ns → TellsAnew e p r q
-    → ProtectsSome ns h r q g
+    → ProtectsSome ns p.words h r q g
 protected_not ns p q h g s e r is k same told = by_result r told
   where
     d : EndsProtecting h ns (Err e) g
@@ -156,11 +157,11 @@ protected_not ns p q h g s e r is k same told = by_result r told
     stays : g ≡ h
     stays = refused_same h g ns e (outcome h (Worker WORKER) (steps.Protect ns)) d.1
 
-    by_result : (r : Result Bool Refusal) → TellsAnew e p r q → ProtectsSome ns h r q g
+    by_result : (r : Result Bool Refusal) → TellsAnew e p r q → ProtectsSome ns p.words h r q g
     by_result (Ok b) t = (
       t.0,
       inr (
-        t.2 ∙ ap (at_stage stages.Mark) same,
+        t.2 ∙ ap (λ (xs : List ℕ). at_stage stages.Mark xs p.words) same,
         stays,
         (e, t.1, refused_so h g ns e (outcome h (Worker WORKER) (steps.Protect ns)) t.1 d.1),
       ),
@@ -178,20 +179,31 @@ pub listed_some : (n : ℕ) (ns : List ℕ) (b : Bool) → b ≡ (n == 0) → b 
 listed_some n ns b told is same e =
     true≢false (sym (eq-eqb n 0 (same ∙ ap length e)) ∙ sym told ∙ is)
 
-pub chooses_none : (p m q : PartsState) (h : HeapState) (ns : List ℕ) → IsChosen h p.found ns → m.chosen ≡ ns → ns ≡ []
-    → q ≡ at_stage stages.Mark m.chosen → ChoosesAll p h (Ok true) q h
-chooses_none p m q h ns k same is new =
-    ([], subst (IsChosen h p.found) is k, (new ∙ ap (at_stage stages.Mark) (same ∙ is), refl))
+pub chooses_none : (p m q : PartsState) (h : HeapState) (ns : List ℕ) (copied : ℕ) → IsChosen h p.found ns copied
+    → m.chosen ≡ ns → m.words ≡ with_copied copied p.words → ns ≡ [] → q ≡ at_stage stages.Mark m.chosen m.words
+    → ChoosesAll p h (Ok true) q h
+chooses_none p m q h ns copied k same words is new = (
+  [],
+  copied,
+  subst (λ (xs : List ℕ). IsChosen h p.found xs copied) is k,
+  (new ∙ ap (λ (xs : List ℕ). at_stage stages.Mark xs m.words) (same ∙ is) ∙ ap (at_stage stages.Mark []) words, refl),
+)
 
-some_on : (ns : List ℕ) (h : HeapState) (r : Result Bool Refusal) (q : PartsState) (g : HeapState) → (ns ≡ [] → ⊥)
-    → ProtectsSome ns h r q g → ProtectsOn ns h r q g
-some_on [] h r q g some k = absurd (some refl)
-some_on (n ∷ ns) h r q g some k = k
+some_on : (ns : List ℕ) (words : LiveWords) (h : HeapState) (r : Result Bool Refusal) (q : PartsState) (g : HeapState)
+    → (ns ≡ [] → ⊥) → ProtectsSome ns words h r q g → ProtectsOn ns words h r q g
+some_on [] words h r q g some k = absurd (some refl)
+some_on (n ∷ ns) words h r q g some k = k
 
-pub chooses_some : (p q : PartsState) (h g : HeapState) (ns : List ℕ) (r : Result Bool Refusal) → IsChosen h p.found ns
-    → (ns ≡ [] → ⊥) → ProtectsSome ns h r q g → ChoosesAll p h r q g
-chooses_some p q h g ns (Ok b) c some k = (ns, c, some_on ns h (Ok b) q g some k)
-chooses_some p q h g ns (Err e) c some k = inr (ns, c, some_on ns h (Err e) q g some k)
+pub chooses_some : (p m q : PartsState) (h g : HeapState) (ns : List ℕ) (copied : ℕ) (r : Result Bool Refusal)
+    → IsChosen h p.found ns copied → m.words ≡ with_copied copied p.words → (ns ≡ [] → ⊥)
+    → ProtectsSome ns m.words h r q g → ChoosesAll p h r q g
+chooses_some p m q h g ns copied r c words some k =
+    by_result r (some_on ns (with_copied copied p.words) h r q g some
+    (subst (λ (w : LiveWords). ProtectsSome ns w h r q g) words k))
+  where
+    by_result : (r : Result Bool Refusal) → ProtectsOn ns (with_copied copied p.words) h r q g → ChoosesAll p h r q g
+    by_result (Ok b) k = (ns, copied, c, k)
+    by_result (Err e) k = inr (ns, copied, c, k)
 
 pub chooses_lacks : (p q : PartsState) (h : HeapState) → ChoosesAll p h (Err refusals.Memory) q h
 chooses_lacks p q h = inl (refl, refl)
@@ -257,28 +269,28 @@ step_goes h m step a k =
 protects_goes : (h m : HeapState) (ns : List ℕ) → Protects WORKER h ns m → Collects h m
 protects_goes h m ns k = step_goes h m (steps.Protect ns) k.0 k.1
 
-some_stage : (ns : List ℕ) (h : HeapState) (r : Result Bool Refusal) (q : PartsState) (g : HeapState)
-    → ProtectsSome ns h r q g → EndsStage h r g
-some_stage ns h (Ok b) q g (f, inl k) =
+some_stage : (ns : List ℕ) (words : LiveWords) (h : HeapState) (r : Result Bool Refusal) (q : PartsState) (g : HeapState)
+    → ProtectsSome ns words h r q g → EndsStage h r g
+some_stage ns words h (Ok b) q g (f, inl k) =
     let m = k.1.0 in and_then h m g (protects_goes h m ns k.1.1) (crosses_goes m g k.1.2)
-some_stage ns h (Ok b) q g (f, inr k) = subst (Collects h) (sym k.1) (none h)
-some_stage ns h (Err e) q g (inl k) = inr k
-some_stage ns h (Err e) q g (inr k) =
+some_stage ns words h (Ok b) q g (f, inr k) = subst (Collects h) (sym k.1) (none h)
+some_stage ns words h (Err e) q g (inl k) = inr k
+some_stage ns words h (Err e) q g (inr k) =
     let m = k.1.0 in
     let first : Collects h m = protects_goes h m ns k.1.1 in
     inl (and_then h m g first (crossings_collect WORKER m g k.1.2.0), (m, first, Crossing k.1.2))
 
-on_stage : (ns : List ℕ) (h : HeapState) (r : Result Bool Refusal) (q : PartsState) (g : HeapState)
-    → ProtectsOn ns h r q g → EndsStage h r g
-on_stage [] h (Ok b) q g k = subst (Collects h) (sym k.1) (none h)
-on_stage [] h (Err e) q g k = absurd k
-on_stage (n ∷ ns) h r q g k = some_stage (n ∷ ns) h r q g k
+on_stage : (ns : List ℕ) (words : LiveWords) (h : HeapState) (r : Result Bool Refusal) (q : PartsState) (g : HeapState)
+    → ProtectsOn ns words h r q g → EndsStage h r g
+on_stage [] words h (Ok b) q g k = subst (Collects h) (sym k.1) (none h)
+on_stage [] words h (Err e) q g k = absurd k
+on_stage (n ∷ ns) words h r q g k = some_stage (n ∷ ns) words h r q g k
 
 all_stage : (p : PartsState) (h : HeapState) (r : Result Bool Refusal) (q : PartsState) (g : HeapState)
     → ChoosesAll p h r q g → EndsStage h r g
-all_stage p h (Ok b) q g k = on_stage k.0 h (Ok b) q g k.2
+all_stage p h (Ok b) q g k = on_stage k.0 (with_copied k.1 p.words) h (Ok b) q g k.3
 all_stage p h (Err e) q g (inl k) = inr k
-all_stage p h (Err e) q g (inr k) = on_stage k.0 h (Err e) q g k.2
+all_stage p h (Err e) q g (inr k) = on_stage k.0 (with_copied k.1 p.words) h (Err e) q g k.3
 
 if_stage : (b : Bool) (p : PartsState) (h : HeapState) (r : Result Bool Refusal) (q : PartsState) (g : HeapState)
     → PreparesIf b p h r q g → EndsStage h r g

@@ -1,7 +1,7 @@
 -- Complete collections.
 use Rattle.std.specs.Prelude.{◌≡◌, ◌⊎◌, ◌||◌, ℕ, Bool, true, false, List, [], ◌∷◌, length, Result, Ok, Err}
 use Rattle.std.specs.List.{list_any}
-use Rattle.choosing.specs.Choices.{IsChoice}
+use Rattle.choosing.specs.Choices.{IsChoice, all_words, words_on}
 use Rattle.model.specs.declared.records.Page.{Page}
 use Rattle.model.specs.declared.steps.Refusal.{Refusal}
 use Rattle.model.specs.declared.steps.Refusal.TheVariants as refusals
@@ -90,9 +90,17 @@ abbrev pub EndsChosen : HeapState → List ℕ → Result ℕ Refusal → HeapSt
 EndsChosen h ns (Ok k) g = Collects h g × (k ≡ length ns) × EmptiesChosen h ns g
 EndsChosen h ns (Err e) g = Collects h g × EndsEmptying WORKER h ns (Err e) g
 
--- k pages of heap h were chosen, and emptied
-abbrev pub EmptiesSparse : ℕ → HeapState → ℕ → HeapState → Type 0
-EmptiesSparse percent h k g = (ns : List ℕ) × IsChoice h percent ns × (k ≡ length ns) × EmptiesChosen h ns g
+-- EndsChosen, with the number of live objects that a mark has found, and the words that were measured
+abbrev pub EndsChoice : ℕ → ℕ → ℕ → HeapState → List ℕ → Result Collected Refusal → HeapState → Type 0
+EndsChoice live live_words copied h ns (Ok r) g =
+    (r.live ≡ live) × (r.live_words ≡ live_words) × (r.copied ≡ copied) × EndsChosen h ns (Ok r.emptied) g
+EndsChoice live live_words copied h ns (Err e) g = EndsChosen h ns (Err e) g
+
+-- pages of heap h were chosen, and emptied: how many they were, how many words their live objects had, and how many
+-- words lived in all pages of heap h
+abbrev pub EmptiesSparse : ℕ → HeapState → Collected → HeapState → Type 0
+EmptiesSparse percent h r g = (ns : List ℕ) × IsChoice h percent ns × (r.emptied ≡ length ns) × EmptiesChosen h ns g
+    × (r.copied ≡ words_on h ns) × (r.live_words ≡ all_words h)
 
 -- there was no memory for the choice of pages, and nothing was done; or the emptying of the chosen pages failed with
 -- e
@@ -101,14 +109,9 @@ StopsSparse percent h e g =
     ((e ≡ refusals.Memory) × (g ≡ h))
     ⊎ ((ns : List ℕ) × IsChoice h percent ns × EndsEmptying WORKER h ns (Err e) g)
 
--- how the choice and the emptying of pages ended
-abbrev pub EndsSparse : ℕ → HeapState → Result ℕ Refusal → HeapState → Type 0
-EndsSparse percent h (Ok k) g = Collects h g × EmptiesSparse percent h k g
-EndsSparse percent h (Err e) g = Collects h g × StopsSparse percent h e g
-
--- EndsSparse with the number of live objects
+-- how the choice and the emptying of pages ended after a mark that found `live` objects
 abbrev pub EndsBehind : ℕ → ℕ → HeapState → Result Collected Refusal → HeapState → Type 0
-EndsBehind percent live h (Ok r) g = (r.live ≡ live) × Collects h g × EmptiesSparse percent h r.emptied g
+EndsBehind percent live h (Ok r) g = (r.live ≡ live) × Collects h g × EmptiesSparse percent h r g
 EndsBehind percent live h (Err e) g = Collects h g × StopsSparse percent h e g
 
 -- a mark failed with e, or the choice or the emptying of pages after it did
@@ -118,7 +121,7 @@ StopsCycle percent h e g =
 
 -- a mark has ended, and then pages were chosen and emptied
 abbrev pub EndsWhole : ℕ → HeapState → Collected → HeapState → Type 0
-EndsWhole percent h r g = (m : HeapState) × EndsDueMark h (Ok r.live) m × EmptiesSparse percent m r.emptied g
+EndsWhole percent h r g = (m : HeapState) × EndsDueMark h (Ok r.live) m × EmptiesSparse percent m r g
 
 -- how a mark ended, and the choice and the emptying of pages after it
 abbrev pub EndsCycle : ℕ → HeapState → Result Collected Refusal → HeapState → Type 0

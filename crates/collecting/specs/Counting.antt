@@ -1,5 +1,5 @@
 -- Counters of collections, alongside a heap.
-use Rattle.std.specs.Prelude.{◌≡◌, ◌⊎◌, ◌<◌, ◌≤◌, ℕ, zero, suc, ◌+◌, not, Bool, true, false, min, nat_lt}
+use Rattle.std.specs.Prelude.{◌≡◌, ◌⊎◌, ◌<◌, ◌≤◌, ◌&&◌, ℕ, zero, suc, ◌+◌, not, Bool, true, false, min, nat_lt}
 use Rattle.std.specs.Prelude.{List, Result, Ok, Err, if◌then◌else◌}
 use Rattle.model.specs.declared.steps.Actor.{Actor}
 use Rattle.model.specs.declared.steps.Actor.TheVariants.{Thread}
@@ -18,7 +18,7 @@ use Rattle.collecting.specs.declared.counting.Counters.{Counters}
 use Rattle.collecting.specs.Collections.{CollectsWhole, lacks_room}
 use Rattle.collecting.specs.Low.{are_low}
 use Rattle.collecting.specs.Pacing.{has_begun, is_emptying, is_urgent, lacks_buffer, most_parts, stops}
-use Rattle.collecting.specs.Stages.{PartGoesOn, PartsState}
+use Rattle.collecting.specs.Stages.{PartGoesOn, PartsState, is_preparing}
 use Rattle.collecting.specs.Targets.{in_use}
 
 -- nothing is counted so far
@@ -33,6 +33,8 @@ no_counts = record {
   ended_in_parts = 0;
   emptied = 0;
   live = 0;
+  live_words = 0;
+  copied = 0;
   most_frames = 0;
 }
 
@@ -47,7 +49,9 @@ abbrev pub ended : Result Collected Refusal → Counters → Counters
 ended (Ok r) c = record c {
   ended = one_more c.ended;
   emptied = min (c.emptied + r.emptied) most_counted;
+  copied = min (c.copied + r.copied) most_counted;
   live = r.live;
+  live_words = r.live_words;
 }
 ended (Err e) c = c
 
@@ -72,10 +76,26 @@ part_done begins empties ends c = record c {
   ended_in_parts = one_if ends c.ended_in_parts;
 }
 
--- a part has ended with this result
-abbrev pub part_counted : PartsState → HeapState → Result Bool Refusal → Counters → Counters
-part_counted p h (Ok b) c = part_done (not (has_begun p h)) (is_emptying p) b c
-part_counted p h (Err e) c = c
+-- a part has chosen pages: it has ended the stage that prepares frames
+abbrev pub has_chosen : PartsState → PartsState → Bool
+has_chosen p q = is_preparing p.stage && not (is_preparing q.stage)
+
+-- if pages were chosen, the words that live on all pages are counted, and if they were protected, those that are copied
+abbrev pub words_counted : Bool → PartsState → Counters → Counters
+words_counted chosen q c = record c {
+  live_words = if chosen then q.words.all else c.live_words;
+  copied = if chosen && is_emptying q then min (c.copied + q.words.copied) most_counted else c.copied;
+}
+
+-- a part was done with this result, if it didn't fail
+abbrev pub result_counted : Bool → Bool → Result Bool Refusal → Counters → Counters
+result_counted begins empties (Ok ends) c = part_done begins empties ends c
+result_counted begins empties (Err e) c = c
+
+-- a part has ended with this result, and left the collection as in q
+abbrev pub part_counted : PartsState → HeapState → Result Bool Refusal → PartsState → Counters → Counters
+part_counted p h r q c =
+    words_counted (has_chosen p q) q (result_counted (not (has_begun p h)) (is_emptying p) r c)
 
 -- ---- collections for a fresh buffer
 
@@ -143,7 +163,7 @@ abbrev pub CountedBy : ℕ → Bool → ℕ → ℕ → ℕ → PartsState → H
 CountedBy zero all free percent budget p h old q g new = (q ≡ p) × (g ≡ h) × (new ≡ old)
 CountedBy (suc k) all free percent budget p h old q g new = (o : PartsState) × (m : HeapState) × (c : Counters)
     × CountedBy k all free percent budget p h old o m c × (k < most_parts all free budget o m)
-    × PartGoesOn percent budget o m (Ok false) q g × (new ≡ part_counted o m (Ok false) c)
+    × PartGoesOn percent budget o m (Ok false) q g × (new ≡ part_counted o m (Ok false) q c)
 
 -- as many as most_parts is then; or the next one was the last
 abbrev pub CountsWhole : Bool → ℕ → ℕ → ℕ → PartsState → HeapState → Counters → PartsState → HeapState → Counters
@@ -156,7 +176,7 @@ abbrev pub CountsLast : Bool → ℕ → ℕ → ℕ → PartsState → HeapStat
 CountsLast all free percent budget p h old q g new = (k : ℕ) × (o : PartsState) × (m : HeapState) × (c : Counters)
     × (r : Result Bool Refusal) × CountedBy k all free percent budget p h old o m c
     × (k < most_parts all free budget o m) × (stops r ≡ true)
-    × PartGoesOn percent budget o m r q g × (new ≡ part_counted o m r c)
+    × PartGoesOn percent budget o m r q g × (new ≡ part_counted o m r q c)
 
 abbrev pub CountsParts : Bool → ℕ → ℕ → ℕ → PartsState → HeapState → Counters → PartsState → HeapState → Counters
     → Type 0

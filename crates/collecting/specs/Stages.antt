@@ -3,7 +3,7 @@ use Rattle.std.specs.Prelude.{◌≡◌, ◌⊎◌, ◌≤◌, ℕ, zero, suc, �
 use Rattle.std.specs.Prelude.{List, [], ◌∷◌, ◌++◌, length, map, take, get_or, nat_le, nat_lt, position, unwrap_or}
 use Rattle.std.specs.Prelude.{Option, Some, None, Result, Ok, Err, IsPermutation, slice_get}
 use Rattle.std.specs.List.{sum_by}
-use Rattle.choosing.specs.Choices.{IsLongest, IsRising, has_room_for, measured_if, page_of}
+use Rattle.choosing.specs.Choices.{IsLongest, IsRising, has_room_for, measured_if, page_of, words_in_use}
 use Rattle.model.specs.declared.steps.Actor.TheVariants.{Worker}
 use Rattle.model.specs.declared.steps.Step.TheVariants as steps
 use Rattle.model.specs.declared.steps.Answer.{Answer}
@@ -11,9 +11,11 @@ use Rattle.model.specs.declared.steps.Refusal.{Refusal}
 use Rattle.model.specs.Outcome.{outcome}
 use Rattle.model.specs.Protections.{free_count, no_page_in, unused_count}
 use Rattle.model.specs.States.{HeapState}
+use Rattle.model.specs.Tallies.{most_counted}
 use Rattle.managed.specs.Collecting.{Crosses, StopsCrossing}
 use Rattle.managed.specs.Emptying.{Protects}
 use Rattle.managed.specs.Goings.{Goes, IsScrub}
+use Rattle.collecting.specs.declared.words.LiveWords.{LiveWords}
 use Rattle.collecting.specs.declared.parts.Stage.{Stage}
 use Rattle.collecting.specs.declared.parts.Stage.TheVariants as stages
 use Rattle.collecting.specs.Collections.{WORKER, Collects, LeftPage}
@@ -21,21 +23,27 @@ use Rattle.collecting.specs.Parts.{LacksMemory, Stops, is_memory}
 
 -- how far a collection in parts has come: its stage; the sparse pages found so far, each after its live words; the
 -- pages that were chosen to be emptied; how many pages were measured, how many parts have prepared frames, or how many
--- of the chosen pages were emptied; and how many frames are to be prepared
+-- of the chosen pages were emptied; how many frames are to be prepared; and how many words live on the pages that were
+-- measured, and on those that were chosen
 pub record PartsState : Type 0 where
   pub stage : Stage
   pub found : List (ℕ × ℕ)
   pub chosen : List ℕ
   pub next : ℕ
   pub frames : ℕ
+  pub words : LiveWords
+
+-- nothing is measured
+abbrev pub no_words : LiveWords
+no_words = record { all = 0; copied = 0 }
 
 -- before the first part of a collection
 abbrev pub first_parts : PartsState
-first_parts = record { stage = stages.Mark; found = []; chosen = []; next = 0; frames = 0 }
+first_parts = record { stage = stages.Mark; found = []; chosen = []; next = 0; frames = 0; words = no_words }
 
--- at the beginning of a stage, with these pages chosen
-abbrev pub at_stage : Stage → List ℕ → PartsState
-at_stage s chosen = record { stage = s; found = []; chosen = chosen; next = 0; frames = 0 }
+-- at the beginning of a stage, with these pages chosen, and these words measured
+abbrev pub at_stage : Stage → List ℕ → LiveWords → PartsState
+at_stage s chosen words = record { stage = s; found = []; chosen = chosen; next = 0; frames = 0; words = words }
 
 -- how many pages of `words` words a part with this budget measures: as many as have 64 words for each object of the
 -- budget, and one more
@@ -53,10 +61,17 @@ as_list (Some x) = x ∷ []
 abbrev pub entered : ℕ × ℕ → ℕ → PartsState → PartsState
 entered x n p = record p { found = p.found ++ x ∷ []; next = n }
 
--- after the measuring of one more page, which is found if it is sparse
+-- with n more live words
+abbrev pub with_live : ℕ → LiveWords → LiveWords
+with_live n w = record w { all = min (w.all + n) most_counted }
+
+-- after the measuring of one more page: its live words are added, and it is found if it is sparse
 abbrev pub measured_one : HeapState → ℕ → PartsState → PartsState
-measured_one h percent p =
-    record p { found = p.found ++ as_list (measured_if h percent (p.next + 1)); next = p.next + 1 }
+measured_one h percent p = record p {
+  found = p.found ++ as_list (measured_if h percent (p.next + 1));
+  next = p.next + 1;
+  words = with_live (words_in_use h (p.next + 1)) p.words;
+}
 
 -- after the measuring of k more pages
 abbrev pub measured_by : HeapState → ℕ → ℕ → PartsState → PartsState
@@ -88,17 +103,18 @@ dead_count ps = unwrap_or (position has_live ps) (length ps)
 abbrev pub emptied_of : ℕ → ℕ → ℕ
 emptied_of dead n = n - (n - dead) / 16
 
--- of the pages that were found, those with the fewest live words, as many as there is space for, except a sixteenth
--- of those with live objects
-abbrev pub IsChosen : HeapState → List (ℕ × ℕ) → List ℕ → Type 0
-IsChosen h found xs = (ps : List (ℕ × ℕ)) × (ns : List ℕ) × IsPermutation found ps × IsRising ps
-    × IsFitting h (map page_of ps) ns × (xs ≡ take (emptied_of (dead_count ps) (length ns)) ns)
-
--- ---- how many frames are prepared
-
 -- how many words the live objects of the pages that were found have, at most 2 ^ 60
 abbrev pub found_words : List (ℕ × ℕ) → ℕ
 found_words ps = min (sum_by (λ (p : ℕ × ℕ). p.0) ps) (2 ^ 60)
+
+-- of the pages that were found, those with the fewest live words, as many as there is space for, except a sixteenth
+-- of those with live objects; and how many words these have
+abbrev pub IsChosen : HeapState → List (ℕ × ℕ) → List ℕ → ℕ → Type 0
+IsChosen h found xs copied = (ps : List (ℕ × ℕ)) × (ns : List ℕ) × IsPermutation found ps × IsRising ps
+    × IsFitting h (map page_of ps) ns × (xs ≡ take (emptied_of (dead_count ps) (length ns)) ns)
+    × (copied ≡ found_words (take (length xs) ps))
+
+-- ---- how many frames are prepared
 
 -- how many pages of `words` words n live words take, with a sixteenth for what stays free at the ends of pages
 abbrev pub pages_for : ℕ → ℕ → ℕ
@@ -121,6 +137,11 @@ frames_by budget words = budget * 32 / max words 1
 abbrev pub parts_for : ℕ → ℕ → ℕ
 parts_for frames by = (2 * frames + 2 * by) / (2 * by + 1)
 
+-- the stage prepares frames
+abbrev pub is_preparing : Stage → Bool
+is_preparing stages.Prepare = true
+is_preparing _ = false
+
 -- how many parts prepare frames
 abbrev pub preparings : ℕ → PartsState → HeapState → ℕ
 preparings budget p h = parts_for p.frames (frames_by budget h.config.words)
@@ -141,7 +162,7 @@ EndsMarking h (Err e) g = Stops h e g
 -- a part of the mark: the next part continues it, or chooses pages, as the mark has ended
 abbrev pub MarksOn : PartsState → HeapState → Result Bool Refusal → PartsState → HeapState → Type 0
 MarksOn p h (Ok b) q g =
-    (b ≡ false) × Collects h g × ((q ≡ p) ⊎ ((q ≡ at_stage stages.Choose p.chosen) × HasEndedMark h g))
+    (b ≡ false) × Collects h g × ((q ≡ p) ⊎ ((q ≡ at_stage stages.Choose p.chosen no_words) × HasEndedMark h g))
 MarksOn p h (Err e) q g = (q ≡ p) × Stops h e g
 
 -- one more of the chosen pages was emptied, or one more part has prepared frames
@@ -149,13 +170,13 @@ abbrev pub passed : PartsState → PartsState
 passed p = record p { next = min (p.next + 1) (2 ^ 32 - 1) }
 
 -- these pages were protected, and all threads have crossed: the next parts empty them
-abbrev pub IsProtected : List ℕ → HeapState → PartsState → HeapState → Type 0
-IsProtected ns h q g =
-    (q ≡ at_stage stages.Empty ns) × ((m : HeapState) × Protects WORKER h ns m × Crosses WORKER m g)
+abbrev pub IsProtected : List ℕ → LiveWords → HeapState → PartsState → HeapState → Type 0
+IsProtected ns words h q g =
+    (q ≡ at_stage stages.Empty ns words) × ((m : HeapState) × Protects WORKER h ns m × Crosses WORKER m g)
 
 -- the protection of pages is rejected, and not for memory, as the choice is out of date: the next part begins anew
-abbrev pub BeginsAnew : List ℕ → HeapState → PartsState → HeapState → Type 0
-BeginsAnew ns h q g = (q ≡ at_stage stages.Mark ns) × (g ≡ h)
+abbrev pub BeginsAnew : List ℕ → LiveWords → HeapState → PartsState → HeapState → Type 0
+BeginsAnew ns words h q g = (q ≡ at_stage stages.Mark ns words) × (g ≡ h)
     × ((e : Refusal) × (is_memory e ≡ false) × (outcome h (Worker WORKER) (steps.Protect ns) ≡ Err e))
 
 -- how the crossing of all threads after the protection of pages ended
@@ -165,30 +186,36 @@ EndsCrossed h (Err e) g = StopsCrossing WORKER h e g
 
 -- the result if Protect is rejected: out of memory, or else the next part begins anew
 abbrev pub TellsAnew : Refusal → PartsState → Result Bool Refusal → PartsState → Type 0
-TellsAnew e p (Ok b) q = (b ≡ false) × (is_memory e ≡ false) × (q ≡ at_stage stages.Mark p.chosen)
+TellsAnew e p (Ok b) q = (b ≡ false) × (is_memory e ≡ false) × (q ≡ at_stage stages.Mark p.chosen p.words)
 TellsAnew e p (Err x) q = (x ≡ e) × (is_memory e ≡ true)
 
 -- chosen pages were protected, or that is rejected, or not all threads have crossed
-abbrev pub ProtectsSome : List ℕ → HeapState → Result Bool Refusal → PartsState → HeapState → Type 0
-ProtectsSome ns h (Ok b) q g = (b ≡ false) × (IsProtected ns h q g ⊎ BeginsAnew ns h q g)
-ProtectsSome ns h (Err e) q g = LacksMemory h e g
-    ⊎ ((q ≡ at_stage stages.Empty ns) × ((m : HeapState) × Protects WORKER h ns m × StopsCrossing WORKER m e g))
+abbrev pub ProtectsSome : List ℕ → LiveWords → HeapState → Result Bool Refusal → PartsState → HeapState → Type 0
+ProtectsSome ns words h (Ok b) q g = (b ≡ false) × (IsProtected ns words h q g ⊎ BeginsAnew ns words h q g)
+ProtectsSome ns words h (Err e) q g = LacksMemory h e g
+    ⊎ ((q ≡ at_stage stages.Empty ns words) × ((m : HeapState) × Protects WORKER h ns m × StopsCrossing WORKER m e g))
 
 -- if no page is chosen nothing is done, and it is the last part
-abbrev pub ChoosesNone : HeapState → Result Bool Refusal → PartsState → HeapState → Type 0
-ChoosesNone h (Ok b) q g = (q ≡ at_stage stages.Mark []) × (g ≡ h)
-ChoosesNone h (Err e) q g = ⊥
+abbrev pub ChoosesNone : LiveWords → HeapState → Result Bool Refusal → PartsState → HeapState → Type 0
+ChoosesNone words h (Ok b) q g = (q ≡ at_stage stages.Mark [] words) × (g ≡ h)
+ChoosesNone words h (Err e) q g = ⊥
 
 -- how the protection of the chosen pages ended
-abbrev pub ProtectsOn : List ℕ → HeapState → Result Bool Refusal → PartsState → HeapState → Type 0
-ProtectsOn [] h r q g = ChoosesNone h r q g
-ProtectsOn (n ∷ ns) h r q g = ProtectsSome (n ∷ ns) h r q g
+abbrev pub ProtectsOn : List ℕ → LiveWords → HeapState → Result Bool Refusal → PartsState → HeapState → Type 0
+ProtectsOn [] words h r q g = ChoosesNone words h r q g
+ProtectsOn (n ∷ ns) words h r q g = ProtectsSome (n ∷ ns) words h r q g
+
+-- words of which n are copied
+abbrev pub with_copied : ℕ → LiveWords → LiveWords
+with_copied n w = record w { copied = n }
 
 -- some of the pages that were found are chosen; or there was no memory for that
 abbrev pub ChoosesAll : PartsState → HeapState → Result Bool Refusal → PartsState → HeapState → Type 0
-ChoosesAll p h (Ok b) q g = (ns : List ℕ) × IsChosen h p.found ns × ProtectsOn ns h (Ok b) q g
-ChoosesAll p h (Err e) q g =
-    LacksMemory h e g ⊎ ((ns : List ℕ) × IsChosen h p.found ns × ProtectsOn ns h (Err e) q g)
+ChoosesAll p h (Ok b) q g = (ns : List ℕ) × (copied : ℕ) × IsChosen h p.found ns copied
+    × ProtectsOn ns (with_copied copied p.words) h (Ok b) q g
+ChoosesAll p h (Err e) q g = LacksMemory h e g
+    ⊎ ((ns : List ℕ) × (copied : ℕ) × IsChosen h p.found ns copied
+    × ProtectsOn ns (with_copied copied p.words) h (Err e) q g)
 
 -- a part that measures pages; if all are measured, the next part prepares frames
 abbrev pub MeasuresOn : ℕ → ℕ → PartsState → HeapState → Result Bool Refusal → PartsState → HeapState → Type 0
@@ -222,7 +249,7 @@ EndsOne h n (Err e) g = Stops h e g
 -- a part that empties the next of the chosen pages: if none is left, it is the last part
 abbrev pub EmptiesOn : PartsState → HeapState → Result Bool Refusal → PartsState → HeapState → Type 0
 EmptiesOn p h (Ok b) q g =
-    ((slice_get p.chosen p.next ≡ None) × (q ≡ at_stage stages.Mark p.chosen) × (g ≡ h))
+    ((slice_get p.chosen p.next ≡ None) × (q ≡ at_stage stages.Mark p.chosen p.words) × (g ≡ h))
     ⊎ ((b ≡ false) × (q ≡ passed p) × ((n : ℕ) × (slice_get p.chosen p.next ≡ Some n) × EmptiesOne h n g))
 EmptiesOn p h (Err e) q g = (q ≡ p) × Stops h e g
 

@@ -36,8 +36,12 @@ use std::alloc::Global;
 pub struct Collected {
     /// How many live objects its mark found.
     pub live: u64,
+    /// How many words the live objects had in all pages, right after the mark.
+    pub live_words: u64,
     /// How many pages were emptied.
     pub emptied: u64,
+    /// How many words were copied: those of the live objects of the pages that were emptied.
+    pub copied: u64,
 }
 
 /// The calls of a program on its heap, besides the steps of `Mutating`: complete loads, objects with the space that

@@ -235,7 +235,7 @@ impl Counting for ManagedHeap {
             (λ ended. is_protect_crossing self.new.phase ≡ false → AreScrubbed self.new) }
         ensures parts { PartGoesOn percent budget parts.old self.old result parts.new self.new }
         ensures counts { counters.new ≡ seen_in_use (in_use self.new)
-            (part_counted parts.old self.old result counters.old) }
+            (part_counted parts.old self.old result parts.new counters.old) }
     {
         let result = part_counted(self, alloc, counters, parts, percent, budget);
         counters.see(self.heap());

@@ -4,7 +4,8 @@ ghost use Rattle.std.specs.Prelude.{◌≡◌, IfOk, false};
 ghost use Rattle.model.specs.Phases.{is_protect_crossing};
 ghost use Rattle.managed.specs.Scrubbing.{AreScrubbed};
 ghost use Rattle.collecting.specs.Collections.{CollectsWhole};
-ghost use Rattle.collecting.specs.Counting.{begun, counted, ended, no_counts, part_counted, part_done, seen_in_use};
+ghost use Rattle.collecting.specs.Counting.{begun, counted, ended, no_counts, part_counted, part_done, result_counted};
+ghost use Rattle.collecting.specs.Counting.{seen_in_use, words_counted};
 ghost use Rattle.collecting.specs.Parts.{EndsPart};
 ghost use Rattle.collecting.specs.Stages.{PartGoesOn};
 ghost use Rattle.collecting.specs.Targets.{in_use};
@@ -50,6 +51,11 @@ pub struct Counters {
     pub emptied: u64,
     /// The live objects that the last complete collection has found.
     pub live: u64,
+    /// The words that live objects had after the mark of the last collection that has chosen pages, also in parts.
+    pub live_words: u64,
+    /// Words that collections have copied: those of the live objects of the pages that complete collections have
+    /// emptied, and collections in parts have protected.
+    pub copied: u64,
     /// The most frames that were used after a call of `Counting`.
     pub most_frames: u32,
 }
@@ -69,6 +75,8 @@ impl Counters {
             ended_in_parts: 0,
             emptied: 0,
             live: 0,
+            live_words: 0,
+            copied: 0,
             most_frames: 0,
         }
     }
@@ -91,7 +99,9 @@ impl Counters {
         if let Ok(collected) = answer {
             self.ended = self.ended.saturating_add(1);
             self.emptied = self.emptied.saturating_add(collected.emptied);
+            self.copied = self.copied.saturating_add(collected.copied);
             self.live = collected.live;
+            self.live_words = collected.live_words;
         }
     }
 
@@ -118,6 +128,28 @@ impl Counters {
         }
         if ends {
             self.ended_in_parts = self.ended_in_parts.saturating_add(1);
+        }
+    }
+
+    /// Counts a part, if it didn't fail.
+    fn count_result(&mut self, begins: bool, empties: bool, part: &Result<bool, Refusal>)
+        ensures { self.new ≡ result_counted begins empties part.now self.old }
+    {
+        if let Ok(ends) = part {
+            self.count_part(begins, empties, *ends);
+        }
+    }
+
+    /// Counts the words that live, if pages were chosen, and those that are copied, if they were protected.
+    fn count_words(&mut self, chosen: bool, parts: &Parts)
+        ensures { self.new ≡ words_counted chosen parts.now self.old }
+    {
+        let words = parts.words();
+        if chosen {
+            self.live_words = words.all;
+        }
+        if chosen && parts.is_emptying() {
+            self.copied = self.copied.saturating_add(words.copied);
         }
     }
 }
@@ -152,13 +184,13 @@ pub(crate) fn part_counted(
     ensures ends { EndsPart heap.old result heap.new }
     ensures scrubbed { IfOk result (λ ended. is_protect_crossing heap.new.phase ≡ false → AreScrubbed heap.new) }
     ensures parts { PartGoesOn percent budget parts.old heap.old result parts.new heap.new }
-    ensures counts { counters.new ≡ part_counted parts.old heap.old result counters.old }
+    ensures counts { counters.new ≡ part_counted parts.old heap.old result parts.new counters.old }
 {
     let begins = !parts.has_begun(heap.heap());
     let empties = parts.is_emptying();
+    let prepares = parts.is_preparing();
     let result = collect_some(heap, alloc, parts, percent, budget);
-    if let Ok(ends) = result {
-        counters.count_part(begins, empties, ends);
-    }
+    counters.count_result(begins, empties, &result);
+    counters.count_words(prepares && !parts.is_preparing(), parts);
     result
 }

@@ -2,12 +2,12 @@
 
 ghost use Rattle.std.specs.Prelude.{◌≡◌, IfOk, true};
 ghost use Rattle.managed.specs.Scrubbing.{AreScrubbed, needs_no_scrub};
-ghost use Rattle.collecting.specs.Collections.{Collects, EndsBehind, EndsDueMark, EndsChosen, EndsSparse, EndsCycle};
+ghost use Rattle.collecting.specs.Collections.{Collects, EndsBehind, EndsChoice, EndsChosen, EndsCycle, EndsDueMark};
 ghost use Rattle.collecting.specs.Collections.{MarksWhole};
 
 use crate::collecting::Collected;
 use crate::leftovers::settle;
-use choosing::choose;
+use choosing::{Choice, choose_measured};
 use managed::ManagedHeap;
 use model::Refusal;
 use std::alloc::Global;
@@ -51,14 +51,20 @@ fn empty_chosen(heap: &mut ManagedHeap, pages: Vec<u32>) -> Result<u64, Refusal>
     }
 }
 
-/// Chooses pages and empties them, and returns how many they are.
-fn empty_sparse(heap: &mut ManagedHeap, alloc: Global, percent: u32) -> Result<u64, Refusal>
-    ensures ends { EndsSparse percent heap.old result heap.new }
-    ensures scrubbed { needs_no_scrub heap.old.phase ≡ true → IfOk result (λ count. AreScrubbed heap.new) }
+/// Empties a choice of pages, after a mark that found `live` objects.
+fn empty_choice(heap: &mut ManagedHeap, live: u64, choice: Choice) -> Result<Collected, Refusal>
+    ensures ends { EndsChoice live choice.live_words choice.words heap.old choice.pages.items result heap.new }
+    ensures scrubbed { needs_no_scrub heap.old.phase ≡ true → IfOk result (λ collected. AreScrubbed heap.new) }
 {
-    match choose(alloc, heap.heap(), percent) {
-        Ok(pages) => empty_chosen(heap, pages),
-        Err(_) => Err(Refusal::Memory),
+    let (live_words, copied) = (choice.live_words, choice.words);
+    match empty_chosen(heap, choice.pages) {
+        Ok(emptied) => Ok(Collected {
+            live,
+            live_words,
+            emptied,
+            copied,
+        }),
+        Err(refusal) => Err(refusal),
     }
 }
 
@@ -72,9 +78,9 @@ fn empty_behind(
     ensures ends { EndsBehind percent live heap.old result heap.new }
     ensures scrubbed { needs_no_scrub heap.old.phase ≡ true → IfOk result (λ collected. AreScrubbed heap.new) }
 {
-    match empty_sparse(heap, alloc, percent) {
-        Ok(emptied) => Ok(Collected { live, emptied }),
-        Err(refusal) => Err(refusal),
+    match choose_measured(alloc, heap.heap(), percent) {
+        Ok(choice) => empty_choice(heap, live, choice),
+        Err(_) => Err(Refusal::Memory),
     }
 }
 

@@ -21,6 +21,7 @@ mod preparing;
 mod rooms;
 mod seeing;
 mod target;
+mod words;
 
 pub use collecting::{Collected, Holding};
 pub use counted::Counting;

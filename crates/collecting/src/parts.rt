@@ -12,14 +12,16 @@ ghost use Rattle.collecting.specs.Targets.{in_use};
 ghost use Rattle.collecting.specs.Parts.{EndsPart, HasEnded, is_memory};
 ghost use Rattle.collecting.specs.Stages.{ChoosesAll, EmptiesOn, EndsCrossed, GoesOn, IsChosen, MarksOn, Measures};
 ghost use Rattle.collecting.specs.Stages.{MeasuresOn, PartGoesOn, PreparesOn, PreparesSome, ProtectsSome, TellsAnew};
-ghost use Rattle.collecting.specs.Stages.{at_stage, entered, first_parts, measured_one, pages_in, passed, preparing};
-ghost use Rattle.collecting.specs.Stages.{preparings};
+ghost use Rattle.collecting.specs.Stages.{at_stage, entered, first_parts, is_preparing, measured_one, no_words};
+ghost use Rattle.collecting.specs.Stages.{pages_in, passed, preparing, preparings, with_copied};
+ghost use Rattle.collecting.specs.declared.parts.Stage.TheVariants as stages;
 
 use crate::chosen::{dead_count, fitting, most_of};
 use crate::low::in_use;
 use crate::portions::{cross, empty_one, mark_some, may_start_mark, protect};
-use crate::preparing::{frames_by, frames_for, parts_for, prepare_some};
-use choosing::measured;
+use crate::preparing::{first_words, frames_by, frames_for, parts_for, prepare_some};
+use crate::words::LiveWords;
+use choosing::measure_page;
 use heap::Heap;
 use managed::ManagedHeap;
 use model::{Page, PageState, Refusal};
@@ -48,6 +50,8 @@ pub struct Parts {
     next: u32,
     /// How many frames are to be prepared.
     frames: u32,
+    /// How many words live on the pages that were measured, and on those that were chosen.
+    words: LiveWords,
 }
 
 impl Model for Parts {
@@ -61,6 +65,7 @@ impl Model for Parts {
       chosen = p.chosen.items;
       next = p.next;
       frames = p.frames;
+      words = p.words;
     } };
 }
 
@@ -75,7 +80,22 @@ impl Parts {
             chosen: Vec::new(alloc),
             next: 0,
             frames: 0,
+            words: LiveWords::none(),
         }
+    }
+
+    /// Returns how many words live on the pages that were measured, and on those that were chosen.
+    pub(crate) fn words(&self) -> LiveWords
+        ensures { result ≡ self.now.words }
+    {
+        self.words
+    }
+
+    /// Returns whether the next part prepares frames, or chooses pages.
+    pub(crate) fn is_preparing(&self) -> bool
+        ensures { result ≡ is_preparing self.now.stage }
+    {
+        matches!(self.stage, Stage::Prepare)
     }
 
     /// Returns whether a collection has begun: a mark runs, or its pages are chosen or emptied.
@@ -131,12 +151,20 @@ impl Parts {
 
     /// Continues with another stage, from its beginning.
     fn begin(&mut self, stage: Stage)
-        ensures { self.new ≡ at_stage stage self.old.chosen }
+        ensures { self.new ≡ at_stage stage self.old.chosen self.old.words }
     {
         self.stage = stage;
         self.next = 0;
         self.frames = 0;
         self.found.clear();
+    }
+
+    /// Continues with the measuring of pages, from the first one.
+    fn begin_choosing(&mut self)
+        ensures { self.new ≡ at_stage stages.Choose self.old.chosen no_words }
+    {
+        self.words = LiveWords::none();
+        self.begin(Stage::Choose);
     }
 
     /// Continues with the preparing of frames for the pages that were found.
@@ -179,7 +207,9 @@ impl Parts {
     {
         let _count = heap.memory().page_count();
         let page = self.next + 1;
-        match measured(heap, percent, page) {
+        let measure = measure_page(heap, percent, page);
+        self.words.add(measure.live);
+        match measure.sparse {
             Some(found) => self.enter(found, page),
             None => {
                 self.skip(page);
@@ -204,12 +234,16 @@ impl Parts {
     /// Chooses those of the found pages with the fewest live words, as many as there is space for, except a
     /// sixteenth of those with live objects.
     fn choose(&mut self, alloc: Global, heap: &Heap) -> Result<Vec<u32>, AllocError>
-        ensures chosen { IfOk result (λ pages. IsChosen heap.now self.old.found pages.items) }
+        ensures chosen { IfOk result
+            (λ pages. IsChosen heap.now self.old.found pages.items self.new.words.copied) }
         ensures kept { IfOk result (λ pages. self.new.chosen ≡ pages.items) }
+        ensures words { IfOk result
+            (λ pages. self.new.words ≡ with_copied self.new.words.copied self.old.words) }
     {
         self.found.sort()?;
         let fitting = fitting(alloc, heap, &self.found)?;
         let pages = Vec::from_slice(alloc, most_of(&fitting, dead_count(&self.found)))?;
+        self.words.copied = first_words(&self.found, pages.len());
         self.chosen = Vec::from_slice(alloc, &pages)?;
         Ok(pages)
     }
@@ -280,7 +314,7 @@ fn mark_part(heap: &mut ManagedHeap, parts: &mut Parts, budget: u32) -> Result<b
 {
     match mark_some(heap, u64::from(budget.max(1))) {
         Ok(true) => {
-            parts.begin(Stage::Choose);
+            parts.begin_choosing();
             Ok(false)
         }
         Ok(false) => Ok(false),
@@ -320,7 +354,7 @@ fn cross_part(heap: &mut ManagedHeap) -> Result<bool, Refusal>
 /// Protects the chosen pages, and has all threads cross.
 fn protect_part(heap: &mut ManagedHeap, parts: &mut Parts, pages: Vec<u32>) -> Result<bool, Refusal>
     requires { parts.old.chosen ≡ pages.items }
-    ensures { ProtectsSome pages.items heap.old result parts.new heap.new }
+    ensures { ProtectsSome pages.items parts.old.words heap.old result parts.new heap.new }
 {
     match protect(heap, pages) {
         Ok(()) => {

@@ -1,6 +1,6 @@
 //! Memory that is prepared before pages are protected, so that the part that protects allocates next to none.
 
-ghost use Rattle.std.specs.Prelude.{◌≡◌, ◌<◌, ◌≤◌, ◌^◌};
+ghost use Rattle.std.specs.Prelude.{◌≡◌, ◌<◌, ◌≤◌, ◌^◌, take};
 ghost use Rattle.collecting.specs.Stages.{found_words, frames_by, frames_for, pages_for, parts_for};
 
 use choosing::room;
@@ -21,6 +21,13 @@ fn found_words(pages: &[(u64, u32)]) -> u64
         total = total.saturating_add(pages[index].0).min(MOST);
     }
     total
+}
+
+/// Returns how many words the live objects of the first `count` pages have, at most `MOST`.
+pub(crate) fn first_words(pages: &[(u64, u32)], count: usize) -> u64
+    ensures { result ≡ found_words (take count pages.now) }
+{
+    found_words(&pages[..count.min(pages.len())])
 }
 
 /// Returns how many pages of `words` words `live` words take, with a sixteenth for what stays free at their ends.

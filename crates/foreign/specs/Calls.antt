@@ -135,4 +135,5 @@ abbrev pub IsSeen : ObjectOfC → Object → Type 0
 IsSeen c o = (c.birth ≡ o.birth) × (c.layout ≡ o.layout) × (c.refs ≡ o.refs) × (c.nums ≡ o.nums)
 
 abbrev pub IsTold : CollectedOfC → Collected → Type 0
-IsTold c r = (c.live ≡ r.live) × (c.emptied ≡ r.emptied)
+IsTold c r =
+    (c.live ≡ r.live) × (c.live_words ≡ r.live_words) × (c.emptied ≡ r.emptied) × (c.copied ≡ r.copied)

@@ -68,7 +68,7 @@ CollectsHeld percent h r g =
 abbrev pub PartHeld : ℕ → ℕ → Held → Result Bool Refusal → Held → Type 0
 PartHeld percent budget h r g =
     PartOf percent budget h r g
-    × (g.counters ≡ seen_in_use (in_use g.heap) (part_counted h.parts h.heap r h.counters))
+    × (g.counters ≡ seen_in_use (in_use g.heap) (part_counted h.parts h.heap r g.parts h.counters))
 
 -- a collection was done, if the percentage is in its range
 abbrev pub CollectsBy : ℕ → CollectedOfC → CollectedOfC → Held → ℕ → Held → Type 0

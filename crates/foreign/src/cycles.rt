@@ -18,8 +18,12 @@ use std::alloc::Global;
 pub struct CollectedOfC {
     /// How many live objects its mark found.
     pub live: u64,
+    /// How many words the live objects had, right after the mark.
+    pub live_words: u64,
     /// How many pages were emptied.
     pub emptied: u64,
+    /// How many words were copied.
+    pub copied: u64,
 }
 
 /// Writes what a collection has done for C.
@@ -27,7 +31,9 @@ fn tell_collected(collected: Collected, done: &mut CollectedOfC)
     ensures { IsTold done.new collected }
 {
     done.live = collected.live;
+    done.live_words = collected.live_words;
     done.emptied = collected.emptied;
+    done.copied = collected.copied;
 }
 
 /// Does a complete collection of a heap.

@@ -17,6 +17,8 @@ pub struct StatisticsOfC {
     pub births: u64,
     /// How many live objects the last complete collection has found.
     pub live: u64,
+    /// How many words live objects had after the mark of the last collection that has chosen pages.
+    pub live_words: u64,
     /// Complete collections that have begun because a call asked for them.
     pub by_calls: u64,
     /// Complete collections that have begun for a fresh buffer, as few frames were free.
@@ -33,6 +35,8 @@ pub struct StatisticsOfC {
     pub ended_in_parts: u64,
     /// Pages that collections have emptied.
     pub emptied: u64,
+    /// Words that collections have copied.
+    pub copied: u64,
     /// Loads that have begun.
     pub loads: u64,
     /// Loads whose reference was corrected, as its object had moved or was to be moved.
@@ -92,6 +96,7 @@ fn statistics_of(held: &Held) -> StatisticsOfC
     StatisticsOfC {
         births: inside.births(),
         live: counters.live,
+        live_words: counters.live_words,
         by_calls: counters.by_calls,
         by_policy: counters.by_policy,
         by_room: counters.by_room,
@@ -100,6 +105,7 @@ fn statistics_of(held: &Held) -> StatisticsOfC
         parts: counters.parts,
         ended_in_parts: counters.ended_in_parts,
         emptied: counters.emptied,
+        copied: counters.copied,
         loads: barriers.loads,
         moved: barriers.gc,
         marked: barriers.nmt,

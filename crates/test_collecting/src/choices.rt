@@ -155,7 +155,9 @@ fn refills(rt: &impl Abort, alloc: Global, mut heap: impl Paged + Drop) -> Resul
     heap.clear_register(ME, 0)?;
     let all = Collected {
         live: 0,
+        live_words: 0,
         emptied: u64::from(PAGES),
+        copied: 0,
     };
     same(rt, heap.collect(alloc, 75), Ok(all));
     same(rt, heap.free_frames(), PAGES);

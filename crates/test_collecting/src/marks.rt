@@ -151,7 +151,9 @@ fn collects(rt: &impl Abort, alloc: Global, mut heap: impl Marking + Drop) -> Re
     mark_halfway(rt, alloc, &mut heap)?;
     let none = Collected {
         live: 10,
+        live_words: 30,
         emptied: 0,
+        copied: 0,
     };
     same(rt, heap.collect(alloc, 50), Ok(none));
     is_whole(rt, &mut heap)

@@ -117,13 +117,17 @@ fn fills(rt: &impl Abort, alloc: Global, mut heap: impl Holding + Drop) -> Resul
     heap.clear_register(ME, LOST)?;
     let all = Collected {
         live: 15,
+        live_words: 45,
         emptied: 0,
+        copied: 0,
     };
     same(rt, heap.collect(alloc, 75), Ok(all));
     heap.clear_register(ME, KEPT)?;
     let none = Collected {
         live: 0,
+        live_words: 0,
         emptied: 3,
+        copied: 0,
     };
     same(rt, heap.collect(alloc, 75), Ok(none));
     Ok(())
@@ -144,7 +148,9 @@ fn waits(rt: &impl Abort, alloc: Global, mut heap: impl Holding + Drop) -> Resul
     heap.finish(ME)?;
     let one = Collected {
         live: 1,
+        live_words: 3,
         emptied: 0,
+        copied: 0,
     };
     same(rt, heap.collect(alloc, 50), Ok(one));
     Ok(())

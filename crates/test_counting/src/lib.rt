@@ -14,3 +14,5 @@ mod paced;
 mod prepared;
 #[cfg(test)]
 mod same;
+#[cfg(test)]
+mod words;

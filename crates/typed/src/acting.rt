@@ -398,7 +398,7 @@ impl HeapCalls for TypedHeap {
         ensures parts { PartGoesOn self.old.policy.percent self.old.budget self.old.parts self.old.heap result
             self.new.parts self.new.heap }
         ensures counts { self.new.counters ≡ seen_in_use (in_use self.new.heap) (part_counted self.old.parts
-            self.old.heap result self.old.counters) }
+            self.old.heap result self.new.parts self.old.counters) }
         ensures kept { ChangesPaced self.old self.new }
     {
         let (counters, parts) = (&mut self.counters, &mut self.parts);

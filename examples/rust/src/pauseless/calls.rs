@@ -55,7 +55,9 @@ pub struct Policy {
 #[derive(Clone, Copy, Debug, Default)]
 pub struct Collected {
     pub live: u64,
+    pub live_words: u64,
     pub emptied: u64,
+    pub copied: u64,
 }
 
 #[link(name = "pauseless", kind = "static")]

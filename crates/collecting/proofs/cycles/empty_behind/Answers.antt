@@ -1,17 +1,18 @@
-use Rattle.managed.specs.Scrubbing.{AreScrubbed}
-use Rattle.managed.proofs.Corrected.{if_ok}
-use Rattle.collecting.proofs.Collections.{behind_ends, behind_stops}
+use Rattle.std.proofs.Common.{◌∙◌, ap, subst}
+use Rattle.choosing.specs.Choices.{IsChoice, all_words, words_on}
+use Rattle.model.specs.States.{HeapState}
+use Rattle.collecting.proofs.Collections.{behind_ends, behind_lacks}
 use Rattle.collecting.proofs.cycles.empty_behind.Goals as goal
 
 pub returns-in-Ok-clause-ends : goal.returns-in-Ok-clause-ends
-returns-in-Ok-clause-ends c = behind_ends c.args.percent c.args.live c.in-Ok.emptied c.args.heap.now
-    c.empty_sparse.new.heap
-    c.empty_sparse.result c.in-Ok.is c.empty_sparse.ensures.ends
+returns-in-Ok-clause-ends c =
+    let choice = c.in-Ok.choice in
+    behind_ends c.args.percent c.args.live choice.live_words choice.words c.args.heap.now c.empty_choice.new.heap
+    choice.pages.items c.empty_choice.result
+    (subst (λ (h : HeapState). IsChoice h c.args.percent choice.pages.items) c.heap.ensures c.in-Ok.ensures.pages)
+    (c.in-Ok.ensures.words ∙ ap (λ (h : HeapState). words_on h choice.pages.items) c.heap.ensures)
+    (c.in-Ok.ensures.live ∙ ap all_words c.heap.ensures)
+    c.empty_choice.ensures.ends
 
 pub returns-in-Err-clause-ends : goal.returns-in-Err-clause-ends
-returns-in-Err-clause-ends c = behind_stops c.args.percent c.args.live c.args.heap.now c.empty_sparse.new.heap
-    c.empty_sparse.result c.in-Err.refusal c.in-Err.is c.empty_sparse.ensures.ends
-
-pub returns-in-Ok-clause-scrubbed : goal.returns-in-Ok-clause-scrubbed
-returns-in-Ok-clause-scrubbed c = λ calm. if_ok (AreScrubbed c.empty_sparse.new.heap) c.empty_sparse.result
-    c.in-Ok.emptied c.in-Ok.is (c.empty_sparse.ensures.scrubbed calm)
+returns-in-Err-clause-ends c = behind_lacks c.args.percent c.args.live c.args.heap.now
