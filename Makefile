@@ -174,7 +174,7 @@ install: pauseless libpauseless.a
 PARTS = c_calls lisp calls commands run boehm crowds zgc pauses large cache data
 
 # The programs in Rattle that they measure.
-BENCHES = bench_heap bench_threads bench_books
+BENCHES = bench_calls bench_collections bench_sharing bench_lock bench_portions bench_lists
 
 ifdef TRY
 bench-programs:
@@ -183,9 +183,12 @@ bench-programs:
 	done
 else
 bench-programs: pauseless libpauseless.a
-	@$(call built,bench_heap,copies 64 3 2)
-	@$(call built,bench_threads,portions 2 128)
-	@$(call built,bench_books,act 100)
+	@$(call built,bench_calls,copies 64 3 2)
+	@$(call built,bench_collections,mark-list 10 2 1 1)
+	@$(call built,bench_sharing,act 100)
+	@$(call built,bench_lock,holds 64 8 4 2 10)
+	@$(call built,bench_portions,portions 2 128)
+	@$(call built,bench_lists,views 2 4000)
 endif
 
 bench: bench-programs

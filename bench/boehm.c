@@ -1,5 +1,5 @@
 /* Shapes of objects that are collected, and objects that are made one behind another, on the collector of Boehm,
-   Demers and Weiser, by one marker. The words of a command are those of the program of crates/bench_heap, which
+   Demers and Weiser, by one marker. The words of a command are those of the program of crates/bench_collections, which
    has the same on this heap:
 
      collect-SHAPE COUNT WORDS HEAPS TIMES   so many times a shape is made, and collected so many times
@@ -9,7 +9,7 @@
    A shape is list, half, tree or graph. An object of WORDS words has a reference and data; one of a tree or a graph
    two references and a datum. Nothing is collected while a shape is made. Two runs of the same numbers but for the
    last one differ in one loop alone. 'keep' and 'drop' begin with as much memory as the heap of
-   crates/bench_heap has.
+   crates/bench_collections has.
 
    With the word 'exact' before these the collector is told that references lead to where an object begins. It then adds
    no byte behind an object, so that one of 2 words takes 16 bytes and not 32. */

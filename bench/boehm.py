@@ -1,7 +1,7 @@
 #!/usr/bin/env python3
 """Compares collections with the collector of Boehm, Demers and Weiser, bdwgc.
 
-The program is that of the crate `bench_heap`; `bench/boehm.c` has the same on bdwgc, with one marker, and is
+The program is that of the crate `bench_collections`; `bench/boehm.c` has the same on bdwgc, with one marker, and is
 built here. If libgc isn't there, a line says so, and nothing is measured. The figures are nanoseconds of a processor,
 or instructions, which `valgrind` counts, for one object that lives or that is made. Each is the difference of two runs,
 the best of several, which differ in one loop alone; the runs of both sides take turns. A '-' is a difference that isn't
@@ -144,7 +144,7 @@ def by(work, instructions):
     def table(programs):
         with tempfile.TemporaryDirectory() as folder:
             other = built(folder)
-            return work(Bench(programs["bench_heap"], other, instructions)) if other else None
+            return work(Bench(programs["bench_collections"], other, instructions)) if other else None
     return table
 
 

@@ -1,7 +1,7 @@
 #!/usr/bin/env python3
 """Times loops over the library's calls, and counts their instructions.
 
-The program is that of the crate `bench_heap`. Each figure is the difference of two
+The program is that of the crate `bench_calls`. Each figure is the difference of two
 runs, the best of several, of which one leaves the calls out; the runs take
 turns, so that a slow moment doesn't fall on one alone. A '-' is a difference
 that isn't robust: half of the runs gives another one.
@@ -19,7 +19,7 @@ A figure includes the mark's start, one crossing and the mark's end.
 Verifications: half the frames of a heap are filled with objects of 4 words
 that live, and the heap is verified some times.
 
-Steps: loops of steps, each of one mix (crates/bench_heap/src/mixes.rt), by each
+Steps: loops of steps, each of one mix (crates/bench_calls/src/mixes.rt), by each
 form of calls, and by `bench/plain.rs`, a heap written by hand in plain Rust,
 which `rustc` compiles. If there is no `rustc`, a line says so, and no steps are
 measured.
@@ -67,7 +67,7 @@ UNCOUNTED = 2_000
 
 def copies(programs):
     """Times copies of objects, compared with copies of slices."""
-    program = programs["bench_heap"]
+    program = programs["bench_calls"]
     forms = {(name, size): [[program, name, size, PAGES, copied] for copied in (0, PAGES)]
              for name in ("copies", "pages") for size in SIZES}
     forms["slices"] = [[program, "slices", WORDS, PAGES, copied] for copied in (0, PAGES)]
@@ -85,7 +85,7 @@ def copies(programs):
 
 def counted_copies(programs):
     """Counts instructions of copies by the page and of steps, compared with `memcpy` of each object's words."""
-    program = programs["bench_heap"]
+    program = programs["bench_calls"]
     forms = {(name, size): [[program, name, size, COUNTED_PAGES, copied] for copied in (0, COUNTED_PAGES)]
              for name in ("pages", "copies", "slices") for size in COUNTED_SIZES}
     took, rows = differences(counted, 1, forms), []
@@ -98,7 +98,7 @@ def counted_copies(programs):
 
 def counted_drains(programs):
     """Instructions for each object of marks of lists and of trees, by steps and by a call."""
-    program = programs["bench_heap"]
+    program = programs["bench_calls"]
     forms = {(form, *shape): [[program, f"{form}-{shape[0]}", shape[1], marks] for marks in (1, 1 + MARKS)]
              for form in ("scan", "drain") for shape in SHAPES}
     took, rows = differences(counted, 1, forms), []
@@ -110,7 +110,7 @@ def counted_drains(programs):
 
 def verifications(programs):
     """Times verifications of heaps of several sizes."""
-    program = programs["bench_heap"]
+    program = programs["bench_calls"]
     forms = {(words, frames, times): [[program, "verified", words, frames, count] for count in (0, times)]
              for words, frames, times in HEAPS}
     took, rows, few = differences(timed, VERIFICATION_RUNS, forms), [], {}
@@ -181,12 +181,12 @@ def steps_by(program, each_of):
 
 def steps(programs):
     """Nanoseconds a step."""
-    return steps_by(programs["bench_heap"], times_a_step)
+    return steps_by(programs["bench_calls"], times_a_step)
 
 
 def counted_steps(programs):
     """Instructions a step."""
-    return steps_by(programs["bench_heap"], instructions_a_step)
+    return steps_by(programs["bench_calls"], instructions_a_step)
 
 
 if __name__ == "__main__":

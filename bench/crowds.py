@@ -1,10 +1,10 @@
 #!/usr/bin/env python3
 """Times threads that share a heap or a book.
 
-The programs are those of the crates `bench_books` and `bench_threads`, which read a clock themselves. Forms take turns,
-so that a slow moment doesn't fall on one alone. Figures of one thread are the best of several runs, those of several
-threads the median: the best would be of a run in which they hardly met. If other programs use the processors too,
-`chrt -f 20` before the command keeps them away from threads.
+The programs are those of the crates `bench_sharing`, `bench_lock`, `bench_portions` and `bench_lists`, which read a
+clock themselves. Forms take turns, so that a slow moment doesn't fall on one alone. Figures of one thread are the best
+of several runs, those of several threads the median: the best would be of a run in which they hardly met. If other
+programs use the processors too, `chrt -f 20` before the command keeps them away from threads.
 
 thread-steps: a register is copied, some 900,000 times, by the calls of a book without seats, by a seat without a lock,
 and by seats of 1 to 8 threads under the lock; loads and reads and writes of data, forty times as many, by portions of
@@ -66,13 +66,13 @@ CYCLE_RUNS = 5
 
 def thread_steps(programs):
     """Steps by each form of calls."""
-    books, shared = programs["bench_books"], programs["bench_threads"]
-    forms = {form: (books, form, STEPS) for form in ("act", "any", "seat")}
+    sharing, portions = programs["bench_sharing"], programs["bench_portions"]
+    forms = {form: (sharing, form, STEPS) for form in ("act", "any", "seat")}
     for threads in THREADS:
-        forms["steps", threads] = (books, "steps", threads, STEPS // threads)
-        forms["counter", threads] = (books, "counter", threads, STEPS // threads)
+        forms["steps", threads] = (sharing, "steps", threads, STEPS // threads)
+        forms["counter", threads] = (sharing, "counter", threads, STEPS // threads)
         for name in ("portions", "locked"):
-            forms[name, threads] = (shared, name, threads, SHARED_STEPS // threads)
+            forms[name, threads] = (portions, name, threads, SHARED_STEPS // threads)
     took = {form: [] for form in forms}
     for _ in range(RUNS):
         for form, (program, *words) in forms.items():
@@ -99,7 +99,7 @@ def turns(programs):
     found = {form: [] for form in forms}
     for _ in range(RUNS):
         for form, words in forms.items():
-            found[form].append(lines(programs["bench_threads"], words))
+            found[form].append(lines(programs["bench_portions"], words))
     rows = []
     for (name, rests, threads), runs in found.items():
         wait, hold = (min(run[kind][2] if kind in run else 0 for run in runs) / 1e6 for kind in ("wait", "hold"))
@@ -125,15 +125,14 @@ def best_rates(program, forms):
 def views(programs):
     """Threads that read one heap at the same time."""
     forms = {("views of a `SharedHeap`", threads): ("views", threads, LOOKS) for threads in VIEWERS}
-    rates = best_rates(programs["bench_threads"], forms)
-    return ["Form", "Threads", "million looks a second", "over one thread"], rates
+    return ["Form", "Threads", "million looks a second", "over one thread"], best_rates(programs["bench_lists"], forms)
 
 
 def apart(programs):
     """Threads that each have a heap of their own."""
     names = {"apart": "a heap for each thread", "plain": "a plain heap for each thread"}
     forms = {(names[name], threads): (name, threads, APART_STEPS) for name in names for threads in APART}
-    rates = best_rates(programs["bench_threads"], forms)
+    rates = best_rates(programs["bench_portions"], forms)
     return ["Form", "Threads", "million steps a second", "over one thread"], rates
 
 
@@ -148,7 +147,7 @@ def held(program, words):
 
 def holds(programs):
     """Steps of each kind on large heaps."""
-    found = {heap: held(programs["bench_books"], words) for heap, words in HEAPS.items()}
+    found = {heap: held(programs["bench_lock"], words) for heap, words in HEAPS.items()}
     names = dict.fromkeys(name for times in found.values() for name in times)
     long = [name for name in names if max(times.get(name, 0) for times in found.values()) >= 20]
     rows = [[name, *(f"{times[name]:,.0f}" if name in times else "" for times in found.values())] for name in long]
@@ -164,7 +163,7 @@ def cycles(programs):
     took = {(form, part): [] for form in forms for part in ("mark", "cycle")}
     for _ in range(CYCLE_RUNS):
         for form, words in forms.items():
-            rows = lines(programs["bench_books"], words)
+            rows = lines(programs["bench_lock"], words)
             for part in ("mark", "cycle"):
                 took[form, part].append(rows[part][1] / 1e6)
     rows = []

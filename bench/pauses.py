@@ -1,7 +1,7 @@
 #!/usr/bin/env python3
 """Times the parts of collections in parts.
 
-The program is that of the crate `bench_heap`, which reads a clock itself. Pages of a heap are filled with
+The program is that of the crate `bench_collections`, which reads a clock itself. Pages of a heap are filled with
 objects, of which each second one lives, in a list. Then the heap is collected three times in parts, each of which is
 timed alone, and once by one call. The longest part of each kind is the least of some runs, since a run in which the
 program was put aside shows a longer one.
@@ -47,7 +47,7 @@ def pauses(programs):
     for objects, (work, heaps) in WORKS.items():
         for words, frames, size, pages in heaps:
             for budget in BUDGETS:
-                found = least(programs["bench_heap"], work, (words, frames, size, pages, budget))
+                found = least(programs["bench_collections"], work, (words, frames, size, pages, budget))
                 cells = [micros(found[kind][2]) if kind in found else "" for kind in KINDS]
                 rows.append([objects, *(f"{number:,}" for number in (frames, words, size, pages, budget)), *cells])
     return ["Objects of", "Frames", "Words a page", "Words an object", "Pages filled", "Budget", *KINDS[:-1],

@@ -3,7 +3,7 @@
 //! the library's calls. It has no collector, so it stays in `Idle` and no page is ever protected;
 //! the tests of phase, page state and NMT bit are made all the same.
 //!
-//! `plain MIX COUNT` does turns of a mix of `crates/bench_heap/src/mixes.rt`, and prints what they give.
+//! `plain MIX COUNT` does turns of a mix of `crates/bench_calls/src/mixes.rt`, and prints what they give.
 
 use std::{collections::BTreeSet, env, error::Error, hint::black_box};
 

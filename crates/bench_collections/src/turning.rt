@@ -1,0 +1,103 @@
+//! Heaps in which a shape is made, and marked or collected some times; and heaps in which objects are allocated.
+
+use crate::asking::{Marked, new_heap, settle};
+use crate::{lists, meshes};
+use anyhow::Result;
+use pauseless::{Holding, Refusal};
+use std::alloc::Global;
+
+/// The shape of the objects.
+#[derive(Clone, Copy)]
+pub enum Shape {
+    List,
+    Half,
+    Tree,
+    Graph,
+}
+
+/// What is done with them.
+#[derive(Clone, Copy)]
+pub enum Turn {
+    /// A mark.
+    Mark,
+    /// A complete collection.
+    Collect,
+}
+
+/// What is done in each heap.
+#[derive(Clone, Copy)]
+pub struct Task {
+    pub shape: Shape,
+    /// The number of objects that are kept.
+    pub count: u32,
+    /// The words of an object of a list.
+    pub words: u32,
+    pub turn: Turn,
+    /// How often that is done.
+    pub times: u32,
+}
+
+/// Makes the shape.
+fn build(alloc: Global, heap: &mut impl Holding, task: Task) -> Result<()> {
+    match task.shape {
+        Shape::List => lists::list(alloc, heap, task.count),
+        Shape::Half => lists::half(alloc, heap, task.count),
+        Shape::Tree => meshes::tree(alloc, heap, task.count),
+        Shape::Graph => meshes::graph(alloc, heap, task.count),
+    }
+}
+
+/// Does one mark, or one collection. Returns how many objects are live.
+fn one_turn(alloc: Global, heap: &mut impl Marked, turn: Turn) -> Result<u64, Refusal> {
+    match turn {
+        Turn::Mark => heap.mark_once(),
+        Turn::Collect => heap.collect_once(alloc),
+    }
+}
+
+/// Does `times` of these. Returns the result of the last one, or 0 if there is none.
+fn turns(alloc: Global, heap: &mut impl Marked, task: Task) -> Result<u64, Refusal> {
+    let mut live = 0;
+    for _ in 0..task.times {
+        live = one_turn(alloc, heap, task.turn)?;
+    }
+    Ok(live)
+}
+
+/// Does all work in one heap.
+fn work(alloc: Global, mut heap: impl Marked + Drop, task: Task) -> Result<u64> {
+    build(alloc, &mut heap, task)?;
+    settle(&mut heap)?;
+    Ok(turns(alloc, &mut heap, task)?)
+}
+
+/// Does the work in each of `heaps` heaps. Returns what the last mark of the last heap found.
+pub fn run(alloc: Global, task: Task, heaps: u32) -> Result<u64> {
+    let mut live = 0;
+    for _ in 0..heaps {
+        live = work(alloc, new_heap(alloc, task.words)?, task)?;
+    }
+    Ok(live)
+}
+
+/// Makes a list of `count` objects in a heap.
+fn kept(alloc: Global, mut heap: impl Holding + Drop, count: u32) -> Result<u64> {
+    lists::list(alloc, &mut heap, count)?;
+    Ok(u64::from(count))
+}
+
+/// Makes a list of `count` objects. Returns their number.
+pub fn keep(alloc: Global, words: u32, count: u32) -> Result<u64> {
+    kept(alloc, new_heap(alloc, words)?, count)
+}
+
+/// Allocates `count` garbage objects in a heap.
+fn lost(alloc: Global, mut heap: impl Holding + Drop, count: u32) -> Result<u64> {
+    lists::waste(alloc, &mut heap, count)?;
+    Ok(u64::from(count))
+}
+
+/// Allocates `count` garbage objects. Returns their number.
+pub fn lose(alloc: Global, words: u32, count: u32) -> Result<u64> {
+    lost(alloc, new_heap(alloc, words)?, count)
+}

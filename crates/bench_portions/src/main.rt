@@ -1,0 +1,65 @@
+//! Benches of steps by threads that share a heap or have one each, for `bench/crowds.py`. Each work prints how many
+//! steps it has done; after the word `timed` it prints nanoseconds too, and the waits for a turn and the holds.
+//!
+//! | Words | Effect |
+//! |---|---|
+//! | `portions THREADS STEPS` | loads, reads and writes, STEPS of each thread, in portions of a `SharedHeap` |
+//! | `locked THREADS STEPS` | the same on plain heaps under one lock |
+//! | `turns THREADS STEPS RESTS` | the same in portions of RESTS rests, alongside a collector; lists grow as well |
+//! | `locked-turns THREADS STEPS` | the same on plain heaps under one lock |
+//! | `apart THREADS STEPS` | the same, each thread on a heap of its own, without waits |
+//! | `plain THREADS STEPS` | the same on plain heaps |
+//!
+//! A heap has 2 MiB. The word `then` separates two works.
+#![tactic(auto)]
+
+mod apart;
+mod locked;
+mod own;
+mod plain;
+mod steps;
+
+use anyhow::{Result, bail};
+use bench_support::{Lap, Work, tell, works};
+use std::alloc::Global;
+use std::sync::Wait;
+use std::thread::Threads;
+use std::time::Clock;
+
+/// Does a work by its name.
+fn work<R: Threads + Wait + Clock + Sync>(
+    rt: &R,
+    alloc: Global,
+    name: &str,
+    numbers: [u32; 5],
+) -> Result<Vec<Lap>> {
+    let [threads, count, rests, _, _] = numbers;
+    match name {
+        "portions" => steps::portions(rt, alloc, threads, count),
+        "locked" => locked::locked(rt, alloc, threads, count, false),
+        "turns" => steps::turns(rt, alloc, threads, count, rests),
+        "locked-turns" => locked::locked(rt, alloc, threads, count, true),
+        "apart" => apart::apart(rt, alloc, threads, count),
+        "plain" => apart::plain(rt, alloc, threads, count),
+        _ => bail!("no such work"),
+    }
+}
+
+/// Does each work, and prints what it has done: without nanoseconds that is what is the same in each run.
+fn run<R: Threads + Wait + Clock + Print + Sync>(
+    rt: &R,
+    alloc: Global,
+    works: &[Work],
+) -> Result<()> {
+    for asked in works {
+        let laps = work(rt, alloc, asked.name.as_str(), asked.numbers)?;
+        let shown = if asked.timed { laps.len() } else { 1 };
+        tell(rt, laps.get(..shown).unwrap_or(&laps), asked.timed)?;
+    }
+    Ok(())
+}
+
+fn main(rt: HostRuntime) -> Result<()> {
+    let works = works(&rt)?;
+    run(&rt, rt.alloc(), &works)
+}
