@@ -72,7 +72,7 @@ fn parted(alloc: Global, name: &str, numbers: [u32; 3]) -> Result<u64> {
     }
 }
 
-/// Does a work by its name. Gives a number that it gives.
+/// Does a work by its name, and returns its number.
 fn work(alloc: Global, name: &str, numbers: [u32; 3]) -> Result<u64> {
     let [first, second, third] = numbers;
     match name {

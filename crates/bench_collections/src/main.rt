@@ -34,7 +34,8 @@
 //! | `scan` | scans at most `BUDGET` objects, and 64 times as many references |
 //! | `end` | scans what is left, and ends the mark |
 //! | `measure` | measures pages |
-//! | `protect` | measures the last pages, chooses some, protects them, and has all threads cross |
+//! | `prepare` | allocates and clears pages that objects move to |
+//! | `protect` | chooses some of the measured pages, protects them, and has all threads cross |
 //! | `empty` | empties a page |
 //! | `last` | finds that nothing is left |
 //! | `whole` | is a collection by one call |
@@ -93,7 +94,7 @@ fn shaped(alloc: Global, name: &str, numbers: [u32; 5]) -> Result<u64> {
     turning::run(alloc, task, heaps)
 }
 
-/// Does a work by its name. Gives a number that it gives.
+/// Does a work by its name, and returns its number.
 fn given(alloc: Global, name: &str, numbers: [u32; 5]) -> Result<u64> {
     let [words, count, _, _, _] = numbers;
     match name {

@@ -1,6 +1,5 @@
-//! How long a step holds the lock of a book that threads share, and cycles of several workers, which
-//! `bench/crowds.py` asks for. Each work prints what it has done; after the word `timed` it prints
-//! nanoseconds too.
+//! How long a step keeps the lock of a recorded heap that threads share, and cycles of several workers, for
+//! `bench/crowds.py`. Each work prints what it has done; after the word `timed` it prints nanoseconds too.
 //!
 //! | Words | Effect |
 //! |---|---|

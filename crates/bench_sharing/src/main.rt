@@ -1,5 +1,5 @@
-//! What threads that share a book cost, which `bench/crowds.py` asks for. Each work prints what it has done;
-//! after the word `timed` it prints nanoseconds too.
+//! The costs of threads that share a recorded heap, for `bench/crowds.py`. Each work prints what it has done; after
+//! the word `timed` it prints nanoseconds too.
 //!
 //! | Words | Effect |
 //! |---|---|
