@@ -27,8 +27,8 @@ use Rattle.collecting.specs.Collections.{WORKER, Collects, EndsLeft}
 use Rattle.collecting.specs.Parts.{EndsCrossing, EndsPortion, EndsProtecting, EndsStage, Stops, StopsAt}
 use Rattle.collecting.specs.Parts.{is_memory}
 use Rattle.collecting.specs.Parts.{Crossing, Emptying}
-use Rattle.collecting.specs.Stages.{PartsState, at_stage, no_words, passed, with_copied, EndsMarking, MarksOn, TellsAnew, EndsCrossed}
-use Rattle.collecting.specs.Stages.{ProtectsSome, ProtectsOn, ChoosesAll, IsChosen}
+use Rattle.collecting.specs.Stages.{PartsState, at_stage, no_words, passed, with_copied, EndsMarking, MarksOn}
+use Rattle.collecting.specs.Stages.{TellsAnew, EndsCrossed, ProtectsSome, ProtectsOn, ChoosesAll, IsChosen}
 use Rattle.collecting.specs.Stages.{PreparesIf, PreparesOn, PreparesSome}
 use Rattle.collecting.specs.Stages.{EmptiesOn, EndsOne, GoesOnIn, GoesOn, PartGoesOn}
 use Rattle.collecting.specs.Stages.{Measures, MeasuresOn, measured_by, measured_one, pages_in, preparing, preparings}
@@ -269,8 +269,8 @@ step_goes h m step a k =
 protects_goes : (h m : HeapState) (ns : List ℕ) → Protects WORKER h ns m → Collects h m
 protects_goes h m ns k = step_goes h m (steps.Protect ns) k.0 k.1
 
-some_stage : (ns : List ℕ) (words : LiveWords) (h : HeapState) (r : Result Bool Refusal) (q : PartsState) (g : HeapState)
-    → ProtectsSome ns words h r q g → EndsStage h r g
+some_stage : (ns : List ℕ) (words : LiveWords) (h : HeapState) (r : Result Bool Refusal) (q : PartsState)
+    (g : HeapState) → ProtectsSome ns words h r q g → EndsStage h r g
 some_stage ns words h (Ok b) q g (f, inl k) =
     let m = k.1.0 in and_then h m g (protects_goes h m ns k.1.1) (crosses_goes m g k.1.2)
 some_stage ns words h (Ok b) q g (f, inr k) = subst (Collects h) (sym k.1) (none h)

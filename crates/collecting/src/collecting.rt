@@ -47,9 +47,8 @@ pub struct Collected {
 /// The calls of a program on its heap, besides the steps of `Mutating`: complete loads, objects with the space that
 /// they need, and collections, which worker 0 does.
 ///
-/// `thread`, registers (`target`, `object`), `field`, `global` and `layout` are numbers from 0. Each call is as its
-/// contract says on a `ManagedHeap`; a function that is generic over this trait depends on none of these contracts,
-/// and is proved in short time.
+/// `thread`, registers (`target`, `object`), `field`, `global` and `layout` are numbers from 0. The contracts are those
+/// of `ManagedHeap`; what is generic over this trait depends on none of them, and is proved in short time.
 pub trait Holding: Mutating {
     /// Loads a reference field of an object into a register, completely, through the read barrier.
     ///
@@ -58,7 +57,6 @@ pub trait Holding: Mutating {
 
     /// Loads several reference fields of the object in a register, each as `read` does, in their order. A load whose
     /// `target` is that register comes last: later loads would be from the object that the register names then.
-    ///
     /// Stops at the first load that fails, and returns how many are done. Fails as `read` does.
     fn loads(&mut self, thread: u32, object: u32, fields: &[FieldLoad]) -> Result<(), LoadsFault>;
 
@@ -129,10 +127,8 @@ pub trait Holding: Mutating {
     fn read_global(&mut self, thread: u32, target: u32, global: u32) -> Result<(), Refusal>;
 
     /// Returns the object that a register names: its birth, its layout, and how many references and data words it
-    /// has.
-    ///
-    /// Fails with `BadIndex` if the thread or the register isn't there, and with `Null`, `Stall` or `Stale` if the
-    /// register may not be used.
+    /// has. Fails with `BadIndex` if the thread or the register isn't there, and with `Null`, `Stall` or `Stale` if
+    /// the register may not be used.
     fn object(&self, thread: u32, register: u32) -> Result<Object, Refusal>;
 
     /// Does a complete collection. Whatever an earlier one has left is finished first. Then a mark runs from its
@@ -148,14 +144,15 @@ pub trait Holding: Mutating {
 
     /// Does the next part of a collection, for a program that can't stop for a complete one: the beginning of a mark
     /// with all crossings; the scan of at most `budget` objects, which ends after the object with which 64 references
-    /// for each of the budget were scanned; the mark's end; the measuring of `budget / 64 + 1` pages; the preparing
-    /// of memory of at most `budget * 32 / words + 1` frames for their objects, on pages of `words` words; the
-    /// protection of all pages that `collect` would empty, except a sixteenth of those with live objects, with all
-    /// crossings; or the emptying of one page. If a mark has begun while objects were uncopied, it is the copying of
-    /// one page; and if the worker has an object that steps have left it, the rest of its scan. Returns true if the
-    /// collection has ended: no mark runs, and nothing is left to be copied or emptied; the next part begins another.
-    /// If the program itself has begun a mark or protected pages meanwhile, it returns false at the end, and the next
-    /// part continues with these.
+    /// for each of the budget were scanned; the mark's end; on pages of `words` words, the measuring of
+    /// `budget * 64 / words + 1` pages; the preparing of memory of at most `budget * 32 / words + 1` frames for their
+    /// objects; the protection of all pages that `collect` would empty, except a sixteenth of those with live objects,
+    /// with all crossings; or the emptying of one page. If a mark has begun while objects were uncopied, it is the
+    /// copying of one page; and if the worker has an object that steps have left it, the rest of its scan.
+    ///
+    /// Returns true if the collection has ended: no mark runs, and nothing is left to be copied or emptied; the next
+    /// part begins another. If the program has begun a mark or protected pages meanwhile, it returns false at the end,
+    /// and the next part continues with these.
     ///
     /// Fails as `collect` does; another call continues from there.
     fn collect_some(

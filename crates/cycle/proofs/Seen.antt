@@ -1,6 +1,6 @@
 -- Numbers that were seen are noted in a bitmap.
-use Rattle.std.proofs.Common.{◌≡◌, ◌≢◌, ℕ, zero, suc, ◌+◌, ◌<◌, ◌||◌, Bool, true, false, List, [], ◌∷◌, length, drop, replicate}
-use Rattle.std.proofs.Common.{get_or, set, refl, sym, ◌∙◌, ap, ap₂, arith, inl, inr, ◌⊎◌}
+use Rattle.std.proofs.Common.{◌≡◌, ◌≢◌, ℕ, zero, suc, ◌+◌, ◌<◌, ◌||◌, Bool, true, false, List, [], ◌∷◌, length}
+use Rattle.std.proofs.Common.{drop, replicate, get_or, set, refl, sym, ◌∙◌, ap, ap₂, arith, inl, inr, ◌⊎◌}
 use Rattle.std.specs.Prelude.{◌==◌}
 use Rattle.std.specs.List.{list_any}
 use Rattle.std.proofs.lemmas.Bool.{eq-eqb, ne_eqb}
@@ -27,7 +27,8 @@ none_seen k (n ∷ ns) = ap₂ (λ a b. a || b) (blank k n) (none_seen k ns)
     blank (suc k) (suc n) = blank k n
 
 pub seen_first : (seen : List Bool) (k : ℕ) (ns : List ℕ) → seen ≡ replicate k false → has_twice ns ≡ repeats seen ns
-seen_first seen k ns blank = ap (λ b. b || has_twice ns) (sym (ap (λ row. list_any (is_seen row) ns) blank ∙ none_seen k ns))
+seen_first seen k ns blank =
+    ap (λ b. b || has_twice ns) (sym (ap (λ row. list_any (is_seen row) ns) blank ∙ none_seen k ns))
 
 -- the first of these was
 pub seen_again : (seen : List Bool) (i : ℕ) (ns : List ℕ) → i < length ns → is_seen seen (get_or ns i 0) ≡ true

@@ -40,7 +40,8 @@ summed ts = summed_to ts (length ts)
 -- the counters alongside the heap
 abbrev pub AreCounters : Counters → StatisticsOfC → Type 0
 AreCounters c s =
-    (s.live ≡ c.live) × (s.live_words ≡ c.live_words) × (s.copied ≡ c.copied) × (s.by_calls ≡ c.by_calls) × (s.by_policy ≡ c.by_policy) × (s.by_room ≡ c.by_room)
+    (s.live ≡ c.live) × (s.live_words ≡ c.live_words) × (s.copied ≡ c.copied)
+    × (s.by_calls ≡ c.by_calls) × (s.by_policy ≡ c.by_policy) × (s.by_room ≡ c.by_room)
     × (s.ended ≡ c.ended) × (s.by_parts ≡ c.by_parts) × (s.parts ≡ c.parts)
     × (s.ended_in_parts ≡ c.ended_in_parts) × (s.emptied ≡ c.emptied) × (s.most_used ≡ c.most_frames)
 

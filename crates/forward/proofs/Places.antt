@@ -20,7 +20,8 @@ Goes words target offset n t o =
 pub counted_more : (words target offset n t o : ℕ) (ps new : List (ℕ × ℕ)) → Goes words target offset n t o
     → target ≤ length ps → new ≡ ps ++ (t, o) ∷ [] → (t + 1 ≡ target_count new) × (t ≤ length new)
 counted_more words target offset n t o ps new goes low put =
-    (sym (ap target_count put ∙ last_target ps t o), omega (arith, by_case goes, ap length put, length-append ps ((t, o) ∷ [])))
+    let last = sym (ap target_count put ∙ last_target ps t o) in
+    (last, omega (arith, by_case goes, ap length put, length-append ps ((t, o) ∷ [])))
   where
     by_case : Goes words target offset n t o → t ≤ length ps + 1
     by_case (inl k) = omega (arith, low, k.1)

@@ -13,7 +13,8 @@ loop-offset-preserved c =
     let first = subst (IsNextPlace row c.loop-offset.from) c.in-Some.is c.next_from.ensures in
     let near = within row k first.here in (
       total_next (size_on h c.args.page) _ _ k c.loop-offset.total _ _ (left_next row c.loop-offset.from k first)
-          c.loop-offset.invariant.0 (ap (λ (n : ℕ). c.loop-offset.total + n) (c.from-total.ensures ∙ c.object_words_on.ensures.value)),
+          c.loop-offset.invariant.0
+          (ap (λ (n : ℕ). c.loop-offset.total + n) (c.from-total.ensures ∙ c.object_words_on.ensures.value)),
       omega (arith, c.loop-offset.invariant.1, c.from-total.ensures, c.object_words_on.ensures.range, first.low),
       omega (arith, near),
     )

@@ -10,8 +10,8 @@ loop-offset-preserved c =
     let h = c.args.heap.now in
     let row = c.args.row.now in
     let k = c.in-Some.offset in
-    planned_next h.store.words c.page_words-words.result (draft_size h c.args.page) c.loop-offset.planning c.push.new.self _ _ _ k
-    c.object_words_on-size.result (c.page_words-words.ensures.value
+    planned_next h.store.words c.page_words-words.result (draft_size h c.args.page) c.loop-offset.planning
+    c.push.new.self _ _ _ k c.object_words_on-size.result (c.page_words-words.ensures.value
     ∙ ap (λ (s : StoreState). s.words) c.memory.ensures)
     (left_next row c.loop-offset.from k (subst (IsNextPlace row c.loop-offset.from) c.in-Some.is c.next_from.ensures))
     c.object_words_on-size.ensures.value c.in_ok-push.ensures c.loop-offset.invariant
