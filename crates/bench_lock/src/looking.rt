@@ -2,7 +2,7 @@
 
 use crate::timing::Timing;
 use anyhow::{Result, bail};
-use choosing::{choose, first_packing, measured, packed_page, room};
+use choosing::{choose, first_packing, measure_page, packed_page, room};
 use heap::Heap;
 use hints::{HintSeat, Hints};
 use marker::next_todo;
@@ -16,7 +16,7 @@ fn look_at_pages(held: &mut impl Timing, pages: u32) -> Result<u64> {
     let mut packing = first_packing();
     for page in 1..=pages {
         let start = held.begin()?;
-        let _ = measured(held.heap(), 100, page);
+        let _ = measure_page(held.heap(), 100, page);
         held.end("a page measured", start)?;
         let start = held.begin()?;
         let next = packed_page(held.heap(), page, packing);
