@@ -25,7 +25,7 @@ pub fn room(heap: &Heap) -> u32
 pub struct Choice {
     /// The chosen pages.
     pub pages: Vec<u32>,
-    /// How many words their live objects have.
+    /// How many words their live objects have; 2^64 - 1 if more.
     pub words: u64,
     /// How many words the live objects of all pages have that have memory and aren't protected.
     pub live_words: u64,
@@ -68,8 +68,9 @@ fn cut(
     })
 }
 
-/// Chooses pages as `choose` does, and returns how many words live with them. It reads the header of each live object
-/// once for its size, and once more for its place if its page is sparse.
+/// Chooses pages as `choose` does, by a percentage of 0 to 100, and returns with them how many words their live objects
+/// have, and those of all pages. Fails only if out of memory. It reads the header of each live object once for its
+/// size, and once more for its place if its page is sparse.
 pub fn choose_measured(alloc: Global, heap: &Heap, percent: u32) -> Result<Choice, AllocError>
     ensures pages { IfOk result (λ choice. IsChoice heap.now percent choice.pages.items) }
     ensures words { IfOk result (λ choice. choice.words ≡ words_on heap.now choice.pages.items) }

@@ -45,7 +45,7 @@ impl Planning {
     }
 
     /// Plans the place of one more object, of a size in words: directly after the previous one, or at the head of the
-    /// next target, of `words` words, if it doesn't fit. Fails only if out of memory, never while there is space.
+    /// next target, of `words` words, if it doesn't fit. Fails only if out of memory.
     #[inline(always)]
     pub fn push(&mut self, words: u32, size: u32) -> Result<(), AllocError>
         ensures { OnOk result ((ns : List ℕ) → planned words self.new ns ≡ planned words self.old (size ∷ ns)) }
