@@ -3,7 +3,10 @@ pub mod Ranked
 pub mod Edited
 pub mod Noted
 pub mod Copies
-pub mod Places
+pub mod Plans
+pub mod Summed
+pub mod Packed
+pub mod Drafted
 pub mod Planned
 pub mod Totals
 pub mod Settling

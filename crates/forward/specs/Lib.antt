@@ -5,3 +5,6 @@ pub mod Searching
 pub mod Settling
 pub mod Noting
 pub mod Planning
+pub mod Sizes
+pub mod Runs
+pub mod Drafts

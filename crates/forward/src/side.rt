@@ -7,13 +7,12 @@ ghost use Rattle.model.specs.declared.limits.TheConstants.{MOST_WORDS};
 ghost use Rattle.model.specs.Marks.{entry_of};
 ghost use Rattle.model.specs.Cycles.{is_uncopied};
 ghost use Rattle.model.specs.Moves.{set_copied_of};
-ghost use Rattle.model.specs.States.{change_at};
 ghost use Rattle.forward.specs.Counts.{uncopied_in};
 ghost use Rattle.forward.specs.Noting.{offset_of, place_of, place_to_copy, noted_side};
 ghost use Rattle.forward.specs.Ranked.{entries_of, IsLiveOf};
 ghost use Rattle.forward.specs.Searching.{found_at};
-ghost use Rattle.forward.specs.Settling.{set_place_of};
 
+use crate::places::Places;
 use markbits::{RankedRow, Row};
 use model::Forwarding;
 use refword::Addr;
@@ -27,7 +26,7 @@ pub struct Side {
     /// Bit `i` is set if an entry has offset `i`.
     live: RankedRow,
     /// The objects' new addresses, in the order of their offsets.
-    places: Vec<Addr, Global>,
+    places: Places,
     /// Bit `i` is set if entry `i` is copied.
     copied: Row,
     /// The offset that was kept last: mostly that entry or the next one is looked up again.
@@ -43,10 +42,10 @@ impl Model for Side {
 
     ghost Value = { List Forwarding };
 
-    ghost view = { λ s. entries_of s.live s.places.items s.copied };
+    ghost view = { λ s. entries_of s.live s.places s.copied };
 
-    ghost invariant = { λ s. AreEntries s.live s.places.items s.copied
-        × IsKept s.live s.places.items s.last s.number };
+    ghost invariant = { λ s. AreEntries s.live s.places s.copied
+        × IsKept s.live s.places s.last s.number };
 }
 
 impl Side {
@@ -57,7 +56,7 @@ impl Side {
     {
         Side {
             live: RankedRow::empty(alloc),
-            places: Vec::new(alloc),
+            places: Places::listed(Vec::new(alloc)),
             copied: Row::empty(alloc),
             last: 0,
             number: u32::MAX,
@@ -77,11 +76,28 @@ impl Side {
         let live = RankedRow::new(alloc, live)?;
         Ok(Side {
             live,
-            places,
+            places: Places::listed(places),
             copied,
             last: 0,
             number: u32::MAX,
         })
+    }
+
+    /// Returns a forwarding table of these parts: a bitmap of the entries' offsets, their new addresses, and which of
+    /// them are copied. It takes no memory.
+    pub(crate) fn of(live: RankedRow, places: Places, copied: Row) -> Side
+        requires short { length live ≤ MOST_WORDS }
+        requires many { length places ≡ count_by (λ b. b) live }
+        requires flags { length copied ≡ length places }
+        ensures { result ≡ entries_of live places copied }
+    {
+        Side {
+            live,
+            places,
+            copied,
+            last: 0,
+            number: u32::MAX,
+        }
     }
 
     /// Returns how many entries there are: at most the words of a page.
@@ -144,7 +160,7 @@ impl Side {
         let offset = self.live.place_near(index, near as usize)?;
         Some(Forwarding {
             offset,
-            to: self.places[index],
+            to: self.places.get(index),
             copied: self.copied.test(index),
         })
     }
@@ -163,7 +179,7 @@ impl Side {
         let offset = self.live.row().next_from(before as usize + 1)?;
         Some(Forwarding {
             offset,
-            to: self.places[index],
+            to: self.places.get(index),
             copied: self.copied.test(index),
         })
     }
@@ -176,7 +192,7 @@ impl Side {
         if index >= self.places.len() {
             return None;
         }
-        Some(self.places[index])
+        Some(self.places.get(index))
     }
 
     /// Returns whether an offset has an entry: found by one bit.
@@ -197,7 +213,7 @@ impl Side {
         let index = self.live.rank(offset as usize);
         Some(Forwarding {
             offset,
-            to: self.places[index],
+            to: self.places.get(index),
             copied: self.copied.test(index),
         })
     }
@@ -241,7 +257,7 @@ impl Side {
         if self.copied.test(number) {
             return None;
         }
-        let to = self.places[number];
+        let to = self.places.get(number);
         self.copied.put(number, true);
         Some(to)
     }
@@ -254,15 +270,6 @@ impl Side {
         if let Some(entry) = self.entry(index) {
             self.last = entry.offset;
             self.number = index as u32;
-        }
-    }
-
-    /// Changes the new address in the entry of a number, from 0, if there is one.
-    pub fn set_place(&mut self, index: usize, to: Addr)
-        ensures { self.new ≡ change_at self.old index (set_place_of to) }
-    {
-        if index < self.places.len() {
-            self.places[index] = to;
         }
     }
 

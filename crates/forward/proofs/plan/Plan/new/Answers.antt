@@ -1,5 +1,5 @@
 use Rattle.std.proofs.Common.{◌∙◌, arith}
-use Rattle.forward.proofs.Places.{placed_all}
+use Rattle.forward.proofs.Plans.{placed_all}
 use Rattle.forward.proofs.Planned.{planned_so}
 use Rattle.forward.proofs.plan.Plan.new.Goals as goal
 

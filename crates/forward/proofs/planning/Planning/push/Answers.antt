@@ -1,5 +1,5 @@
 use Rattle.std.proofs.Common.{arith, inl, inr}
-use Rattle.forward.proofs.Places.{Goes, counted_more}
+use Rattle.forward.proofs.Plans.{Goes, counted_more}
 use Rattle.forward.proofs.planning.Planning.push.Goals as goal
 use Rattle.forward.proofs.planning.Planning.push.Goals.{then-from, else-from}
 

@@ -13,7 +13,7 @@ returns c = taken_all c.args.self.now c.loop-index.entries.items c.loop-index.in
   c.loop-index-test.false,
   c.len-count.ensures,
   ap length c.self.view_is,
-  entries_many c.self.inside.live c.self.inside.places.items c.self.inside.copied,
+  entries_many c.self.inside.live c.self.inside.places c.self.inside.copied,
 )) c.loop-index.invariant
 
 pub numbered-requires : goal.numbered-requires
@@ -22,5 +22,5 @@ numbered-requires c = omega (
   c.loop-index-test.true,
   c.len-count.ensures,
   ap length c.self.view_is,
-  entries_many c.self.inside.live c.self.inside.places.items c.self.inside.copied,
+  entries_many c.self.inside.live c.self.inside.places c.self.inside.copied,
 )

@@ -1,6 +1,5 @@
 use Rattle.std.proofs.Common.{◌+◌, ◌-◌, ◌<◌, ◌∙◌, None, List, Bool, ap, subst, length, arith}
 use Rattle.std.specs.List.{slice_get}
-use Rattle.std.proofs.lemmas.List.{get_or_read}
 use Rattle.markbits.specs.Words.{IsFirstFrom, IsNextPlace}
 use Rattle.forward.specs.Noting.{offset_of}
 use Rattle.forward.proofs.Edited.{entry_is}
@@ -9,14 +8,14 @@ use Rattle.forward.proofs.side.Side.entry_behind.Goals as goal
 
 pub returns-then-index-len : goal.returns-then-index-len
 returns-then-index-len c =
-    none_there c.self.inside.live c.self.inside.places.items c.self.inside.copied c.args.index
+    none_there c.self.inside.live c.self.inside.places c.self.inside.copied c.args.index
     (omega (arith, c.if-index-len.true, c.len.ensures))
     ∙ ap (λ s. slice_get s c.args.index) c.self.view_is
 
 pub returns-in_err-offset : goal.returns-in_err-offset
 returns-in_err-offset c =
     c.from_residual.ensures
-    ∙ none_behind c.self.inside.live c.self.inside.places.items c.self.inside.copied c.self.invariant.0 c.args.index
+    ∙ none_behind c.self.inside.live c.self.inside.places c.self.inside.copied c.self.invariant.0 c.args.index
     c.args.before c.requires.low
     (ap (λ s. offset_of (slice_get s (c.args.index - 1))) c.self.view_is ∙ c.requires.before)
     (omega (arith, c.if-index-len.false, c.len.ensures))
@@ -26,13 +25,13 @@ returns-in_err-offset c =
 pub returns : goal.returns
 returns c =
     let live = c.self.inside.live in
-    let places = c.self.inside.places.items in
+    let places = c.self.inside.places in
     let l : c.args.index < length places = omega (arith, c.if-index-len.false, c.len.ensures) in
     let offset = behind_offset live places c.self.inside.copied c.self.invariant.0 c.args.index
     c.args.before c.requires.low
     (ap (λ s. offset_of (slice_get s (c.args.index - 1))) c.self.view_is ∙ c.requires.before) c.in_ok-offset.offset l
     (subst (λ (r : List Bool). IsFirstFrom r (c.args.before + 1) c.in_ok-offset.offset) c.row.ensures
     c.in_ok-offset.ensures) in
-    entry_is live places c.self.inside.copied c.self.invariant.0 c.args.index c.in_ok-offset.offset c.index.result.now
-    c.test.result l offset (get_or_read places c.args.index c.index.result.now l c.index.ensures 0) c.test.ensures
+    entry_is live places c.self.inside.copied c.self.invariant.0 c.args.index c.in_ok-offset.offset c.get.result
+    c.test.result l offset c.get.ensures c.test.ensures
     ∙ ap (λ s. slice_get s c.args.index) c.self.view_is

@@ -7,7 +7,7 @@ use Rattle.forward.proofs.side.Side.is_copied.Goals as goal
 pub returns : goal.returns
 returns c = same_test c.len.result c.count.result (uncopied_in c.args.self.now) (omega (
   arith,
-  left_of c.self.inside.live c.self.inside.places.items c.self.inside.copied c.self.invariant.0,
+  left_of c.self.inside.live c.self.inside.places c.self.inside.copied c.self.invariant.0,
   ap uncopied_in c.self.view_is,
   c.len.ensures,
   c.count.ensures.value,

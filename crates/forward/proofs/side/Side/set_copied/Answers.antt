@@ -9,14 +9,14 @@ use Rattle.forward.proofs.side.Side.set_copied.Goals as goal
 
 pub returns-then-test : goal.returns-then-test
 returns-then-test c =
-    ap (entries_of c.self.inside.live c.self.inside.places.items)
+    ap (entries_of c.self.inside.live c.self.inside.places)
     (c.put.ensures ∙ ap (λ i. set c.self.inside.copied i true) c.rank-index.ensures)
-    ∙ noted c.self.inside.live c.self.inside.places.items c.self.inside.copied c.self.invariant.0 c.args.offset
+    ∙ noted c.self.inside.live c.self.inside.places c.self.inside.copied c.self.invariant.0 c.args.offset
     (sym c.test.ensures ∙ c.if-test.true)
     ∙ ap (map (set_copied_of c.args.offset)) c.self.view_is
 
 pub returns-else-test : goal.returns-else-test
 returns-else-test c = none_noted c.args.offset c.args.self.now
     (subst (λ s. entry_of s c.args.offset ≡ None) c.self.view_is
-    (none_ranked c.self.inside.live c.self.inside.places.items c.self.inside.copied c.self.invariant.0 c.args.offset
+    (none_ranked c.self.inside.live c.self.inside.places c.self.inside.copied c.self.invariant.0 c.args.offset
     (sym c.test.ensures ∙ c.if-test.false)))

@@ -1,0 +1,5 @@
+use Rattle.forward.proofs.Packed.{ArePlaced}
+use Rattle.forward.proofs.runs.Runs.new.Given as goal
+
+abbrev pub invariant-loop-number : goal.invariant-loop-number
+invariant-loop-number l = ArePlaced l.words l.fn.end l.fn.sizes l.number l.first l.last l.more.items l.at

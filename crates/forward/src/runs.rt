@@ -1,0 +1,228 @@
+//! The places of a page's objects, by runs.
+
+ghost use Rattle.std.specs.Prelude.{◌≡◌, ◌+◌, ◌*◌, ◌<◌, ◌≤◌, ◌^◌, ◌++◌, ℕ, List, [], length, slice_get, IfOk, OnOk, Some};
+ghost use Rattle.std.specs.Prelude.{get_or, map};
+ghost use Rattle.refword.specs.Words.{IsAddress};
+ghost use Rattle.model.specs.declared.limits.TheConstants.{MOST_PAGES, MOST_WORDS};
+ghost use Rattle.model.specs.Owning.{Each};
+ghost use Rattle.model.specs.Plans.{address_in, places_from, target_count};
+ghost use Rattle.forward.specs.Runs.{address_at, head_of, last_with, next_place, run_of, run_on, runs_with};
+
+use crate::plan::Slot;
+use crate::sizes::Sizes;
+use refword::Addr;
+use std::alloc::{AllocError, Global};
+use std::marker::Model;
+
+/// Consecutive objects of a page that go to one target, one directly after the other.
+#[derive(Clone, Copy, Debug)]
+pub struct Run {
+    /// The number of the first of them, from 0.
+    pub(crate) first: u32,
+    /// How many words the page's objects before it have.
+    pub(crate) before: u32,
+    /// The number of the target, from 0; once the target is on a page, the address of the page's head.
+    pub(crate) target: u64,
+    /// The offset of the first of them in the target, in words.
+    pub(crate) offset: u32,
+}
+
+/// Returns the place of an object of `size` words behind what ends at a place: there, or at the head of the next
+/// target, of `words` words, if it doesn't fit.
+#[inline(always)]
+pub(crate) fn next_place(words: u32, end: Slot, size: u32) -> Slot
+    requires few { end.0 < 2 ^ 63 }
+    ensures place { result ≡ next_place words end size }
+    ensures fits { result.1 + size < 2 ^ 32 }
+    ensures near { result.0 ≤ end.0 + 1 }
+{
+    if u64::from(end.offset) + u64::from(size) <= u64::from(words) {
+        end
+    } else {
+        Slot {
+            target: end.target + 1,
+            offset: 0,
+        }
+    }
+}
+
+/// The places of a page's objects, in their order. A contract sees the list of them.
+#[derive(Debug, Drop)]
+pub struct Runs {
+    sizes: Sizes,
+    /// The run that objects of earlier pages have begun.
+    first: Run,
+    /// The others.
+    more: Vec<Run, Global>,
+}
+
+impl Model for Runs {
+    ghost use Rattle.std.specs.Prelude.{List, ℕ};
+    ghost use Rattle.forward.specs.Runs.{places_in};
+
+    ghost Value = { List (ℕ × ℕ) };
+
+    ghost view = { λ r. places_in r.first r.more.items 0 0 r.sizes };
+}
+
+/// Returns the address of a target's head, by the target's number, from 0, and the pages of targets, of `words` words.
+fn head_of(words: u32, targets: &[u32], target: u64) -> u64
+    requires words { words ≤ MOST_WORDS }
+    requires pages { Each targets.now (λ n. n ≤ MOST_PAGES) }
+    ensures { result ≡ head_of words targets.now target }
+{
+    match targets.get(target as usize) {
+        None => 0,
+        Some(page) => u64::from(*page) * u64::from(words),
+    }
+}
+
+/// Returns a run of which the target is known by the address of its head.
+fn run_on(words: u32, targets: &[u32], run: Run) -> Run
+    requires words { words ≤ MOST_WORDS }
+    requires pages { Each targets.now (λ n. n ≤ MOST_PAGES) }
+    ensures { result ≡ run_on words targets.now run }
+{
+    Run {
+        first: run.first,
+        before: run.before,
+        target: head_of(words, targets, run.target),
+        offset: run.offset,
+    }
+}
+
+/// The same for each of these runs.
+fn put_on(words: u32, targets: &[u32], runs: &mut Vec<Run>)
+    requires words { words ≤ MOST_WORDS }
+    requires pages { Each targets.now (λ n. n ≤ MOST_PAGES) }
+    ensures { runs.new.items ≡ map (run_on words targets.now) runs.old.items }
+{
+    for index in 0..runs.len() {
+        runs[index] = run_on(words, targets, runs[index]);
+    }
+}
+
+/// Adds a run to a list, if it has another target than the last one. Returns which of both is the last one then. Fails
+/// only if out of memory.
+#[inline(always)]
+fn add_run(runs: &mut Vec<Run>, last: Run, run: Run) -> Result<Run, AllocError>
+    ensures last { IfOk result (λ r. r ≡ last_with last run) }
+    ensures runs { OnOk result (runs.new.items ≡ runs_with runs.old.items last run) }
+{
+    if last.target == run.target {
+        return Ok(last);
+    }
+    runs.push(run)?;
+    Ok(run)
+}
+
+/// Returns the run of an object, by the object's number, from 0: the last one that doesn't begin behind it.
+#[inline(always)]
+pub(crate) fn run_of(first: Run, more: &[Run], number: usize) -> Run
+    ensures { result ≡ run_of first more.now number }
+{
+    let mut run = first;
+    for index in 0..more.len() {
+        let next = more[index];
+        if next.first as usize > number {
+            return run;
+        }
+        run = next;
+    }
+    run
+}
+
+impl Runs {
+    /// Plans places for a page's objects, in targets of `words` words, behind what ends at `end`, next fit: each directly
+    /// after the previous one, or at the head of the next target if it doesn't fit. Then `end` is where they end. Fails
+    /// only if out of memory.
+    pub fn new(alloc: Global, words: u32, end: &mut Slot, sizes: Sizes) -> Result<Runs, AllocError>
+        requires few { end.old.0 + length sizes < 2 ^ 63 }
+        ensures places { IfOk result (λ r. (ns : List ℕ) → places_from words end.old.0 end.old.1 (sizes ++ ns)
+            ≡ r ++ places_from words end.new.0 end.new.1 ns) }
+        ensures counted { IfOk result (λ r. 0 < length sizes → target_count r ≡ end.new.0 + 1) }
+        ensures near { end.new.0 ≤ end.old.0 + length sizes }
+    {
+        let first = Run {
+            first: 0,
+            before: 0,
+            target: end.target as u64,
+            offset: end.offset,
+        };
+        let mut last = first;
+        let mut more = Vec::new(alloc);
+        let mut at = *end;
+        for number in 0..sizes.len() {
+            let size = sizes.size(number);
+            let place = next_place(words, at, size);
+            let run = Run {
+                first: number as u32,
+                before: sizes.before(number),
+                target: place.target as u64,
+                offset: place.offset,
+            };
+            last = add_run(&mut more, last, run)?;
+            at = Slot {
+                target: place.target,
+                offset: place.offset + size,
+            };
+        }
+        *end = at;
+        Ok(Runs { sizes, first, more })
+    }
+
+    /// Returns no places. It takes no memory.
+    pub fn empty(alloc: Global) -> Runs
+        ensures { result ≡ [] }
+    {
+        let first = Run {
+            first: 0,
+            before: 0,
+            target: 0,
+            offset: 0,
+        };
+        Runs {
+            sizes: Sizes::empty(alloc),
+            first,
+            more: Vec::new(alloc),
+        }
+    }
+
+    /// Returns how many places there are: at most the words of the largest page.
+    pub fn len(&self) -> usize
+        ensures value { result ≡ length self.now }
+        ensures range { result ≤ MOST_WORDS }
+    {
+        self.sizes.len()
+    }
+
+    /// Returns the same places in targets on these pages, of `words` words each: their targets are known by the
+    /// addresses of the pages' heads.
+    pub(crate) fn on(self, words: u32, targets: &[u32]) -> Runs
+        requires words { words ≤ MOST_WORDS }
+        requires pages { Each targets.now (λ n. n ≤ MOST_PAGES) }
+        ensures { map address_at result ≡ map (address_in words targets.now) self }
+    {
+        let mut more = self.more;
+        put_on(words, targets, &mut more);
+        Runs {
+            sizes: self.sizes,
+            first: run_on(words, targets, self.first),
+            more,
+        }
+    }
+
+    /// Returns the address of an object's place, by the object's number, from 0, if targets are known by the addresses
+    /// of their heads.
+    #[inline(always)]
+    pub(crate) fn address(&self, number: usize) -> Addr
+        requires there { number < length self.now }
+        requires address { IsAddress (get_or (map address_at self.now) number 0) }
+        ensures { result ≡ get_or (map address_at self.now) number 0 }
+    {
+        let run = run_of(self.first, &self.more, number);
+        let behind = self.sizes.before(number).saturating_sub(run.before);
+        let offset = u64::from(run.offset) + u64::from(behind);
+        Addr::new(run.target + offset).unwrap()
+    }
+}
