@@ -237,14 +237,14 @@ module _ (w : ℕ) (end : ℕ × ℕ) (ns : List ℕ) (i n : ℕ) (first last : 
       before =
           places_before first more r 0 0 (take i ns) (omega (arith, taken_many ns i n e, ap (λ (q : Run). q.first) is))
 
-      this : place_in (run_of first (more ++ r ∷ []) i) (words_before ns i) ≡ p
-      this = ap (λ q. place_in q (words_before ns i)) (run_last first (more ++ r ∷ []) (i + 1) i begun (omega arith)
-          ∙ last_is first more r ∙ is) ∙ head
-
-      head : with_offset p.0 (p.1 + (words_before ns i - words_before ns i)) ≡ p
-      head =
+      there : with_offset p.0 (p.1 + (words_before ns i - words_before ns i)) ≡ p
+      there =
           let same : p.1 + (words_before ns i - words_before ns i) ≡ p.1 = omega arith in
           ap (λ o. with_offset p.0 o) same
+
+      this : place_in (run_of first (more ++ r ∷ []) i) (words_before ns i) ≡ p
+      this = ap (λ q. place_in q (words_before ns i)) (run_last first (more ++ r ∷ []) (i + 1) i begun (omega arith)
+          ∙ last_is first more r ∙ is) ∙ there
 
       here : with_offset p.0 (p.1 + n) ≡ with_offset p.0 (p.1 + (words_before ns (i + 1) - words_before ns i))
       here =

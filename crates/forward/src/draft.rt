@@ -61,6 +61,14 @@ impl Draft {
         })
     }
 
+    /// Returns how many objects there are: at most the words of the largest page.
+    pub fn len(&self) -> usize
+        ensures value { result ≡ length self.now.places }
+        ensures range { result ≤ MOST_WORDS }
+    {
+        self.places.len()
+    }
+
     /// Returns the forwarding table, if targets, of `words` words each, are on these pages. It takes no memory.
     pub fn settle(self, alloc: Global, words: u32, targets: &[u32]) -> Side
         requires words { words ≤ MOST_WORDS }

@@ -28,6 +28,16 @@ impl Model for Slot {
 }
 
 impl Slot {
+    /// Returns the place of the first of all objects: the head of the first target.
+    pub fn first() -> Slot
+        ensures { result ≡ (0, 0) }
+    {
+        Slot {
+            target: 0,
+            offset: 0,
+        }
+    }
+
     /// Returns the number of the target, from 0.
     pub fn target(self) -> usize
         ensures { result ≡ self.0 }

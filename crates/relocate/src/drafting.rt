@@ -1,118 +1,111 @@
-//! What is planned before pages are protected: the live objects of pages, and their places.
+//! What is planned before pages are protected: places for the live objects of pages.
 
-ghost use Rattle.std.specs.Prelude.{◌≡◌, ◌<◌, ◌≤◌, ◌++◌, ℕ, List, length, map, replicate, count_by, OnOk, IfOk};
-ghost use Rattle.model.specs.Plans.{offsets_from, places_from};
-ghost use Rattle.model.specs.Owning.{Each};
+ghost use Rattle.std.specs.Prelude.{◌≡◌, ◌+◌, ◌<◌, ◌≤◌, ◌^◌, ◌++◌, ℕ, List, length, map, IfOk};
 ghost use Rattle.std.specs.List.{flat_map};
-ghost use Rattle.forward.specs.Planning.{planned};
-ghost use Rattle.relocate.specs.Drafts.{address_of, draft_of, draft_size, draft_sizes};
+ghost use Rattle.model.specs.Owning.{Each};
+ghost use Rattle.model.specs.Plans.{offsets_from, places_from, plan_of, target_count};
+ghost use Rattle.model.specs.declared.limits.TheConstants.{MOST_WORDS};
+ghost use Rattle.relocate.specs.Drafts.{AreDraftsOf, IsDraftOf, draft_size, draft_sizes, places_of};
 
-use forward::{Plan, Planning, Side};
+use forward::{Draft, Runs, Sizes, Slot};
 use heap::{Heap, Row};
-use refword::Addr;
 use std::alloc::{AllocError, Global};
 
-/// Plans a place for each live object of a page, by the page's number from 1 and its live bitmap. Fails only if out of
-/// memory.
-fn plan_objects(
-    heap: &Heap,
-    page: u32,
-    row: &Row,
-    planning: &mut Planning,
-) -> Result<(), AllocError>
+/// Returns the sizes of the live objects of a page, by the page's number from 1 and its live bitmap. Fails only if out
+/// of memory.
+fn sizes_on(alloc: Global, heap: &Heap, page: u32, row: &Row) -> Result<Sizes, AllocError>
     requires low { 0 < page }
     requires high { page ≤ heap.now.store.count }
     requires size { length row.now ≤ heap.now.store.words }
-    ensures { OnOk result ((ns : List ℕ) → planned heap.now.store.words planning.new ns
-        ≡ planned heap.now.store.words planning.old (map (draft_size heap.now page) (offsets_from 0 row.now) ++ ns)) }
+    ensures { IfOk result (λ s. s ≡ map (draft_size heap.now page) (offsets_from 0 row.now)) }
 {
-    let words = heap.memory().page_words();
+    heap.law();
     let memory = heap.memory().words(page);
+    let mut sizes = Sizes::new(alloc, row.count())?;
     let mut from = 0;
     while let Some(offset) = row.next_from(from) {
         let size = heap.object_words_on(page, memory, offset);
-        planning.push(words, size)?;
+        sizes.push(size)?;
         from = offset as usize + 1;
     }
-    Ok(())
+    Ok(sizes)
 }
 
-/// Returns the head of a page, by the page's number from 1, as often as the page has live objects. Fails only if out of
-/// memory.
-fn heads(alloc: Global, heap: &Heap, page: u32, row: &Row) -> Result<Vec<Addr>, AllocError>
-    requires low { 0 < page }
-    requires high { page ≤ heap.now.store.count }
-    ensures { IfOk result (λ v. v.items ≡ replicate (count_by (λ b. b) row.now) (address_of heap.now page 0)) }
-{
-    heap.law();
-    vec![in alloc; heap.address_on(page, 0); row.count()]
-}
-
-/// Returns the forwarding table of a page, by its number from 1, before places are known: all of its live objects go
-/// to the head of the page. Plans their places. A page without a record has no live objects.
+/// Plans places for the live objects of a page, by the page's number from 1, next fit behind what ends at `end`. Then
+/// `end` is where they end. A page without a record has no live objects. Fails only if out of memory.
 #[tactic(auto, unfolding(model::specs::Plans::live_offsets))]
-fn draft_page(
-    alloc: Global,
-    heap: &Heap,
-    page: u32,
-    planning: &mut Planning,
-) -> Result<Side, AllocError>
+fn draft_page(alloc: Global, heap: &Heap, page: u32, end: &mut Slot) -> Result<Draft, AllocError>
     requires low { 0 < page }
     requires high { page ≤ heap.now.store.count }
-    ensures side { IfOk result (λ side. side ≡ draft_of heap.now page) }
-    ensures places { OnOk result ((ns : List ℕ) → planned heap.now.store.words planning.new ns
-        ≡ planned heap.now.store.words planning.old (draft_sizes heap.now page ++ ns)) }
+    requires few { end.old.0 < 2 ^ 62 }
+    ensures draft { IfOk result (IsDraftOf heap.now page) }
+    ensures places { IfOk result (λ d. (ns : List ℕ)
+        → places_from heap.now.store.words end.old.0 end.old.1 (draft_sizes heap.now page ++ ns)
+        ≡ d.places ++ places_from heap.now.store.words end.new.0 end.new.1 ns) }
+    ensures counted { IfOk result (λ d. 0 < length d.places → target_count d.places ≡ end.new.0 + 1) }
+    ensures near { end.new.0 ≤ end.old.0 + MOST_WORDS }
 {
     heap.law();
     match heap.live().get((page - 1) as usize) {
-        None => Ok(Side::empty(alloc)),
+        None => Ok(Draft::empty(alloc)),
         Some(row) => {
-            plan_objects(heap, page, row, planning)?;
-            let places = heads(alloc, heap, page, row)?;
+            let sizes = sizes_on(alloc, heap, page, row)?;
+            let words = heap.memory().page_words();
+            let places = Runs::new(alloc, words, end, sizes)?;
             let live = row.copy(alloc)?;
-            let side = Side::new(alloc, live, places)?;
-            Ok(side)
+            let draft = Draft::new(alloc, live, places)?;
+            Ok(draft)
         }
     }
 }
 
-/// The live objects of pages, each an entry of its page's forwarding table, and their places in the order of the pages
-/// and, in each page, of offsets.
+/// The drafts of pages.
 #[derive(Drop)]
-pub(crate) struct Draft {
-    /// A forwarding table for each page, in the pages' order.
-    pub sides: Vec<Side>,
-    /// The place of each object.
-    pub plan: Plan,
+pub(crate) struct Drafts {
+    /// One for each page, in the pages' order.
+    pub drafts: Vec<Draft>,
+    /// How many objects they have.
+    pub objects: u64,
+    /// How many targets these are placed in.
+    pub targets: usize,
 }
 
-/// Returns how many live objects pages have, by their numbers from 1.
-fn count_objects(heap: &Heap, pages: &[u32]) -> usize {
-    let mut count = 0usize;
-    for page in pages {
-        if let Some(row) = heap.live().get((*page as usize).saturating_sub(1)) {
-            count = count.saturating_add(row.count());
-        }
+/// Returns how many targets there are with a draft, given how many there are without it, and where its objects end.
+fn count_targets(targets: usize, draft: &Draft, end: Slot) -> usize
+    requires few { end.0 < 2 ^ 63 }
+    requires counted { 0 < length draft.now.places → target_count draft.now.places ≡ end.0 + 1 }
+    ensures { (ps : List (ℕ × ℕ)) → targets ≡ target_count ps → result ≡ target_count (ps ++ draft.now.places) }
+{
+    if draft.len() == 0 {
+        targets
+    } else {
+        end.target() + 1
     }
-    count
 }
 
-/// Returns the draft of pages, by their numbers from 1. Fails only if out of memory.
-pub(crate) fn draft_pages(alloc: Global, heap: &Heap, pages: &[u32]) -> Result<Draft, AllocError>
+/// Returns the drafts of pages, by their numbers from 1. Fails only if out of memory.
+pub(crate) fn draft_pages(alloc: Global, heap: &Heap, pages: &[u32]) -> Result<Drafts, AllocError>
     requires low { Each pages.now (λ n. 0 < n) }
     requires high { Each pages.now (λ n. n ≤ heap.now.store.count) }
-    ensures sides { IfOk result (λ d. d.sides.items ≡ map (draft_of heap.now) pages.now) }
-    ensures plan { IfOk result (λ d. d.plan
-        ≡ places_from heap.now.store.words 0 0 (flat_map (draft_sizes heap.now) pages.now)) }
+    requires few { length pages.now ≤ 2 ^ 20 }
+    ensures drafts { IfOk result (λ d. AreDraftsOf heap.now pages.now d.drafts.items) }
+    ensures plan { IfOk result (λ d. flat_map places_of d.drafts.items ≡ plan_of heap.now pages.now) }
+    ensures objects { IfOk result (λ d. d.objects ≡ length (plan_of heap.now pages.now)) }
+    ensures targets { IfOk result (λ d. d.targets ≡ target_count (plan_of heap.now pages.now)) }
 {
-    let mut sides = Vec::with_capacity(alloc, pages.len())?;
-    let mut planning = Planning::new(alloc, count_objects(heap, pages))?;
+    let mut drafts = Vec::with_capacity(alloc, pages.len())?;
+    let mut end = Slot::first();
+    let mut objects = 0u64;
+    let mut targets = 0usize;
     for index in 0..pages.len() {
-        let side = draft_page(alloc, heap, pages[index], &mut planning)?;
-        sides.push(side)?;
+        let draft = draft_page(alloc, heap, pages[index], &mut end)?;
+        targets = count_targets(targets, &draft, end);
+        objects += draft.len() as u64;
+        drafts.push(draft)?;
     }
-    Ok(Draft {
-        sides,
-        plan: planning.finish(),
+    Ok(Drafts {
+        drafts,
+        objects,
+        targets,
     })
 }

@@ -1,6 +1,7 @@
 //! Protecting pages.
 
-ghost use Rattle.std.specs.Prelude.{◌≡◌, ◌<◌, ◌≤◌, [], false, map, length, vec_capacity, IfOk};
+ghost use Rattle.std.specs.Prelude.{◌≡◌, ◌<◌, ◌≤◌, ◌^◌, [], false, length, vec_capacity, IfOk};
+ghost use Rattle.std.specs.List.{flat_map};
 ghost use Rattle.model.specs.Owning.{Each};
 ghost use Rattle.model.specs.Plans.{plan_of, target_count};
 ghost use Rattle.model.specs.Outcome.{WorkerPasses};
@@ -10,14 +11,14 @@ ghost use Rattle.model.specs.declared.steps.Step.TheVariants as steps;
 ghost use Rattle.model.specs.Stores.{state_at};
 ghost use Rattle.model.specs.declared.records.PageState.TheVariants.{Closed};
 ghost use Rattle.model.specs.declared.records.Phase.TheVariants.{Idle};
-ghost use Rattle.relocate.specs.Drafts.{draft_of};
+ghost use Rattle.relocate.specs.Drafts.{AreDraftsOf, places_of};
 ghost use Rattle.relocate.specs.Targets.{AreBlank};
 
 use crate::drafting::draft_pages;
 use crate::ripe::{all_ripe, room_for};
 use crate::settling::settle_pages;
 use crate::targets::{blank_targets, open_targets};
-use forward::{Plan, Side};
+use forward::Draft;
 use heap::{Heap, PageMemory};
 use model::{Answer, Phase, Refusal, Reply};
 use std::alloc::{AllocError, Global};
@@ -25,29 +26,35 @@ use std::alloc::{AllocError, Global};
 /// Everything for which protecting pages allocates memory.
 #[derive(Drop)]
 struct Preparation {
-    /// The places of the pages' live objects.
-    plan: Plan,
-    /// A forwarding table for each page, in the pages' order.
-    sides: Vec<Side>,
+    /// A draft for each page, in the pages' order.
+    drafts: Vec<Draft>,
+    /// How many live objects the pages have.
+    objects: u64,
+    /// How many targets they go to.
+    count: usize,
     /// An empty list with space for the pages of the targets.
     targets: Vec<u32>,
 }
 
-/// Returns the plan of pages, their forwarding tables, and a list with space for the targets. It doesn't change the
-/// heap. Fails only if out of memory.
+/// Returns the drafts of pages, and a list with space for the targets. It doesn't change the heap. Fails only if out of
+/// memory.
 fn prepare(alloc: Global, heap: &Heap, pages: &[u32]) -> Result<Preparation, AllocError>
     requires low { Each pages.now (λ n. 0 < n) }
     requires high { Each pages.now (λ n. n ≤ heap.now.store.count) }
-    ensures plan { IfOk result (λ p. p.plan ≡ plan_of heap.now pages.now) }
-    ensures sides { IfOk result (λ p. p.sides.items ≡ map (draft_of heap.now) pages.now) }
+    requires few { length pages.now ≤ 2 ^ 20 }
+    ensures drafts { IfOk result (λ p. AreDraftsOf heap.now pages.now p.drafts.items) }
+    ensures plan { IfOk result (λ p. flat_map places_of p.drafts.items ≡ plan_of heap.now pages.now) }
+    ensures objects { IfOk result (λ p. p.objects ≡ length (plan_of heap.now pages.now)) }
+    ensures count { IfOk result (λ p. p.count ≡ target_count (plan_of heap.now pages.now)) }
     ensures empty { IfOk result (λ p. p.targets.items ≡ []) }
-    ensures room { IfOk result (λ p. target_count (plan_of heap.now pages.now) ≤ vec_capacity p.targets) }
+    ensures room { IfOk result (λ p. p.count ≤ vec_capacity p.targets) }
 {
-    let draft = draft_pages(alloc, heap, pages)?;
-    let targets = Vec::with_capacity(alloc, draft.plan.targets())?;
+    let planned = draft_pages(alloc, heap, pages)?;
+    let targets = Vec::with_capacity(alloc, planned.targets)?;
     Ok(Preparation {
-        plan: draft.plan,
-        sides: draft.sides,
+        drafts: planned.drafts,
+        objects: planned.objects,
+        count: planned.targets,
         targets,
     })
 }
@@ -58,21 +65,22 @@ fn protect_prepared(heap: &mut Heap, pages: &[u32], prepared: Preparation, memor
     requires idle { heap.old.phase ≡ Idle }
     requires closed { Each pages.now (λ n. state_at heap.old.store n ≡ Closed) }
     requires once { has_twice pages.now ≡ false }
-    requires plan { prepared.plan ≡ plan_of heap.old pages.now }
-    requires sides { prepared.sides.items ≡ map (draft_of heap.old) pages.now }
+    requires drafts { AreDraftsOf heap.old pages.now prepared.drafts.items }
+    requires plan { flat_map places_of prepared.drafts.items ≡ plan_of heap.old pages.now }
+    requires count { prepared.count ≡ target_count (plan_of heap.old pages.now) }
     requires empty { prepared.targets.items ≡ [] }
-    requires room { target_count (plan_of heap.old pages.now) ≤ vec_capacity prepared.targets }
-    requires blank { AreBlank heap.old.store.words (target_count (plan_of heap.old pages.now)) memory.items }
-    requires frames { target_count (plan_of heap.old pages.now) ≤ free_count heap.old.store }
-    requires unused { target_count (plan_of heap.old pages.now) ≤ unused_count heap.old.store }
+    requires room { prepared.count ≤ vec_capacity prepared.targets }
+    requires blank { AreBlank heap.old.store.words prepared.count memory.items }
+    requires frames { prepared.count ≤ free_count heap.old.store }
+    requires unused { prepared.count ≤ unused_count heap.old.store }
     ensures { heap.new ≡ protect heap.old pages.now }
 {
     heap.law();
-    let mut sides = prepared.sides;
+    let mut drafts = prepared.drafts;
     let mut targets = prepared.targets;
     let mut memory = memory;
-    open_targets(heap, prepared.plan.targets(), &mut memory, &mut targets);
-    settle_pages(heap, pages, &prepared.plan, &targets, &mut sides);
+    open_targets(heap, prepared.count, &mut memory, &mut targets);
+    settle_pages(heap, pages, &mut drafts, &targets);
     heap.raw_start_protection(pages);
 }
 
@@ -94,13 +102,13 @@ pub fn protect(heap: &mut Heap, worker: u32, pages: &[u32]) -> Reply
     let Ok(prepared) = prepare(heap.allocator(), heap, pages) else {
         return Err(Refusal::Memory);
     };
-    room_for(heap, prepared.plan.targets())?;
-    let Ok(memory) = blank_targets(heap, prepared.plan.targets()) else {
+    room_for(heap, prepared.count)?;
+    let Ok(memory) = blank_targets(heap, prepared.count) else {
         return Err(Refusal::Memory);
     };
     let answer = Answer::Protected {
-        objects: prepared.plan.len() as u64,
-        targets: prepared.plan.targets() as u64,
+        objects: prepared.objects,
+        targets: prepared.count as u64,
     };
     protect_prepared(heap, pages, prepared, memory);
     Ok(answer)
