@@ -137,11 +137,12 @@ impl Runs {
     /// after the previous one, or at the head of the next target if it doesn't fit. Then `end` is where they end. Fails
     /// only if out of memory.
     pub fn new(alloc: Global, words: u32, end: &mut Slot, sizes: Sizes) -> Result<Runs, AllocError>
-        requires few { end.old.0 + length sizes < 2 ^ 63 }
+        requires few { end.old.0 < 2 ^ 62 }
+        ensures many { IfOk result (λ r. length r ≡ length sizes) }
         ensures places { IfOk result (λ r. (ns : List ℕ) → places_from words end.old.0 end.old.1 (sizes ++ ns)
             ≡ r ++ places_from words end.new.0 end.new.1 ns) }
         ensures counted { IfOk result (λ r. 0 < length sizes → target_count r ≡ end.new.0 + 1) }
-        ensures near { end.new.0 ≤ end.old.0 + length sizes }
+        ensures near { end.new.0 ≤ end.old.0 + MOST_WORDS }
     {
         let first = Run {
             first: 0,

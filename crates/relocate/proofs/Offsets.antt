@@ -3,6 +3,8 @@ use Rattle.std.proofs.Common.{◌≡◌, ℕ, zero, suc, ◌+◌, ◌-◌, ◌<�
 use Rattle.std.proofs.Common.{map}
 use Rattle.std.proofs.Common.{drop, get_or, refl, sym, ◌∙◌, ap, ap₂, arith}
 use Rattle.std.proofs.lemmas.Bool.{true≢false}
+use Rattle.std.proofs.lemmas.List.{append-nil, append_assoc}
+use Rattle.model.specs.Bits.{of_page}
 use Rattle.std.specs.List.{slice_get}
 use Rattle.std.proofs.Common.{Some, None}
 use Rattle.model.proofs.OfPages.{of_page_none, of_page_some}
@@ -10,10 +12,7 @@ use Rattle.model.specs.Holding.{IsHeap}
 use Rattle.model.proofs.Tables.{row_short}
 use Rattle.model.specs.States.{HeapState}
 use Rattle.model.specs.Plans.{offsets_from, live_offsets}
-use Rattle.forward.specs.Planning.{PlanningState, planned}
-use Rattle.relocate.specs.Drafts.{draft_of, draft_entry, draft_size, draft_sizes}
-use Rattle.std.specs.Prelude.{replicate, count_by}
-use Rattle.forward.proofs.Ranked.{offsets_many}
+use Rattle.relocate.specs.Drafts.{draft_size, draft_sizes}
 use Rattle.markbits.specs.Words.{IsFirstFrom}
 
 -- from a place on, the first set bit comes before those after it
@@ -58,48 +57,36 @@ pub left_none : (bits : List Bool) (i : ℕ) → ((j : ℕ) → i ≤ j → get_
     → offsets_from i (drop i bits) ≡ []
 left_none bits i none = offsets_none bits i i none
 
--- the place of one more object is planned
-pub planned_next : (w v : ℕ) (f : ℕ → ℕ) (p q : PlanningState) (whole : List ℕ → List (ℕ × ℕ)) (left rest : List ℕ)
-    (k n : ℕ) → v ≡ w → left ≡ k ∷ rest → n ≡ f k → ((ns : List ℕ) → planned v q ns ≡ planned v p (n ∷ ns))
-    → ((ns : List ℕ) → planned w p (map f left ++ ns) ≡ whole ns)
-    → (ns : List ℕ) → planned w q (map f rest ++ ns) ≡ whole ns
-planned_next w v f p q whole left rest k n same is size more so_far ns =
-    ap (λ x. planned x q (map f rest ++ ns)) (sym same) ∙ more (map f rest ++ ns)
-    ∙ ap₂ (λ x m. planned x p (m ∷ map f rest ++ ns)) same size
-    ∙ ap (λ xs. planned w p (map f xs ++ ns)) (sym is) ∙ so_far ns
+-- the size of one more object is known
+pub sized_next : (f : ℕ → ℕ) (sizes more whole left rest : List ℕ) (k n : ℕ) → left ≡ k ∷ rest → n ≡ f k
+    → more ≡ sizes ++ n ∷ [] → sizes ++ map f left ≡ whole → more ++ map f rest ≡ whole
+sized_next f sizes more whole left rest k n is size put so_far =
+    ap (λ xs. xs ++ map f rest) put ∙ append_assoc sizes (n ∷ []) (map f rest)
+    ∙ ap (λ m. sizes ++ m ∷ map f rest) size ∙ ap (λ xs. sizes ++ map f xs) (sym is) ∙ so_far
 
 -- none is left
-pub planned_all : (w : ℕ) (f : ℕ → ℕ) (p : PlanningState) (whole : List ℕ → List (ℕ × ℕ)) (left : List ℕ) → left ≡ []
-    → ((ns : List ℕ) → planned w p (map f left ++ ns) ≡ whole ns) → (ns : List ℕ) → planned w p ns ≡ whole ns
-planned_all w f p whole left none so_far ns = ap (λ xs. planned w p (map f xs ++ ns)) (sym none) ∙ so_far ns
-
--- a page's head, as often as it has live objects
-pub heads_are : (row : List Bool) (a : ℕ) → replicate (count_by (λ b. b) row) a ≡ map (λ o. a) (offsets_from 0 row)
-heads_are row a = ap (λ n. replicate n a) (sym (offsets_many 0 row)) ∙ each (offsets_from 0 row)
-  where
-    each : (os : List ℕ) → replicate (length os) a ≡ map (λ o. a) os
-    each [] = refl
-    each (o ∷ os) = ap (λ xs. a ∷ xs) (each os)
+pub sized_all : (f : ℕ → ℕ) (sizes whole left : List ℕ) → left ≡ [] → sizes ++ map f left ≡ whole → sizes ≡ whole
+sized_all f sizes whole left none so_far =
+    sym (append-nil sizes) ∙ ap (λ xs. sizes ++ map f xs) (sym none) ∙ so_far
 
 module _ (h : HeapState) (n : ℕ) (low : 0 < n) where
-  pub none_drafted : slice_get h.live (n - 1) ≡ None → ([] ≡ draft_of h n) × ([] ≡ draft_sizes h n)
-  unfolding live_offsets
-  none_drafted e =
-      let none = of_page_none h.live n low e in (
-        ap (λ row. map (draft_entry h n) (offsets_from 0 row)) (sym none),
-        ap (λ row. map (draft_size h n) (offsets_from 0 row)) (sym none),
-      )
+  -- a page without a record has no live objects
+  pub none_live : slice_get h.live (n - 1) ≡ None → [] ≡ of_page h.live n
+  none_live e = sym (of_page_none h.live n low e)
 
-  pub row_drafted : (r : List Bool) → slice_get h.live (n - 1) ≡ Some r
-      → (map (draft_entry h n) (offsets_from 0 r) ≡ draft_of h n)
-      × (map (draft_size h n) (offsets_from 0 r) ≡ draft_sizes h n)
+  pub none_sized : slice_get h.live (n - 1) ≡ None → [] ≡ draft_sizes h n
   unfolding live_offsets
-  row_drafted r e =
-      let is = of_page_some h.live n r low e in (
-        ap (λ row. map (draft_entry h n) (offsets_from 0 row)) (sym is),
-        ap (λ row. map (draft_size h n) (offsets_from 0 row)) (sym is),
-      )
+  none_sized e = ap (λ row. map (draft_size h n) (offsets_from 0 row)) (none_live e)
 
-  -- the live bitmap of a page has no more bits than the page has words, and the draft of it rises
+  -- one with a record has those of its live bitmap
+  pub row_live : (r : List Bool) → slice_get h.live (n - 1) ≡ Some r → r ≡ of_page h.live n
+  row_live r e = sym (of_page_some h.live n r low e)
+
+  pub live_sized : (r : List Bool) → slice_get h.live (n - 1) ≡ Some r
+      → map (draft_size h n) (offsets_from 0 r) ≡ draft_sizes h n
+  unfolding live_offsets
+  live_sized r e = ap (λ row. map (draft_size h n) (offsets_from 0 row)) (row_live r e)
+
+  -- the live bitmap of a page has no more bits than the page has words
   pub row_sized : (r : List Bool) → IsHeap h → slice_get h.live (n - 1) ≡ Some r → length r ≤ h.store.words
   row_sized r i e = row_short h.store h.live (n - 1) r i.live e

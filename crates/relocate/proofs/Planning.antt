@@ -1,17 +1,17 @@
 -- The plan of pages: a place for each live object, in one of the targets.
 use Rattle.std.proofs.Common.{◌≡◌, ℕ, zero, suc, ◌+◌, ◌<◌, ◌≤◌, Bool, true, false, cond, nat_le, List, [], ◌∷◌, ◌++◌}
-use Rattle.std.proofs.Common.{◌-◌, set, drop, length, map, Option, Some, None, refl, sym}
+use Rattle.std.proofs.Common.{◌*◌, drop, get_or, length, map, take, Option, Some, None, refl, sym}
 use Rattle.std.proofs.Common.{◌∙◌, ap, ap₂, subst, arith, length-append}
-use Rattle.std.specs.List.{slice_get, flat_map, sum_by}
+use Rattle.std.specs.List.{slice_get, flat_map}
+use Rattle.std.specs.Prelude.{Result, Ok, Err, IfOk, count_by}
 use Rattle.std.proofs.lemmas.Bool.{leb-true}
-use Rattle.std.proofs.lemmas.List.{length-map, map-append}
+use Rattle.std.proofs.lemmas.List.{append-nil, append_assoc, drop_all, drop_more, map-append, take_all, take_more}
 use Rattle.std.proofs.lemmas.Simd.{map-map}
-use Rattle.std.proofs.lemmas.List.Sums.{sum_by-cons}
 use Rattle.std.proofs.lemmas.Option.{same_Some}
 use Rattle.layout.specs.declared.shape.Layout.{Layout}
 use Rattle.model.specs.declared.records.Forwarding.{Forwarding}
 use Rattle.model.specs.Owning.{Each}
-use Rattle.model.specs.Holding.{IsHeap, AreRising}
+use Rattle.model.specs.Holding.{IsHeap}
 use Rattle.model.specs.States.{HeapState}
 use Rattle.model.specs.Bits.{of_page}
 use Rattle.model.specs.Data.{layout_at}
@@ -19,12 +19,11 @@ use Rattle.model.specs.Plans.{places_from, target_count, plan_of, live_offsets, 
 use Rattle.model.specs.Plans.{words_of, with_sides, moves_of}
 use Rattle.model.specs.Protections.{has_twice, with_targets, with_protected, protect_with, protect}
 use Rattle.heap.specs.Relocating.{start_protection}
-use Rattle.model.proofs.Plans.{places_length, side_rises}
 use Rattle.model.proofs.Plans as plans
-use Rattle.relocate.specs.Drafts.{draft_of, draft_entry, draft_sizes, draft_size, address_of, with_placed_sides}
-use Rattle.relocate.specs.Drafts.{with_placed_drafts, with_places}
+use Rattle.relocate.specs.Drafts.{AreDraftsOf, IsDraftOf, IsReadyFor, address_of, draft_sizes, places_of, with_settled}
 use Rattle.model.proofs.Tables.{row_short}
-use Rattle.relocate.proofs.Settled.{sides_placed}
+use Rattle.forward.specs.Drafts.{DraftState}
+use Rattle.relocate.proofs.Settled.{sides_settled}
 
 -- sizes
 
@@ -41,31 +40,6 @@ unfolding plan_of live_objects
 sizes_planned h pages = ap (places_from h.store.words 0 0)
     (flat_mapped (object_words h) (live_on h) (draft_sizes h) pages
     (λ n. sym (map-map (object_words h) (address_of h n) (live_offsets h n))))
-
--- there is a place for each entry
-counted_flat : {X Y : Type 0} (f : X → List Y) (g : X → ℕ) (xs : List X) → ((x : X) → length (f x) ≡ g x)
-    → length (flat_map f xs) ≡ sum_by g xs
-counted_flat f g [] h = refl
-counted_flat f g (x ∷ xs) h =
-    let rest = counted_flat f g xs h in
-    length-append (f x) (flat_map f xs) ∙ omega (arith, h x, rest, sum_by-cons g x xs)
-
-counted_mapped : {X Y : Type 0} (f : X → List Y) (g : X → ℕ) (xs : List X) → ((x : X) → length (f x) ≡ g x)
-    → sum_by length (map f xs) ≡ sum_by g xs
-counted_mapped f g [] h = refl
-counted_mapped f g (x ∷ xs) h =
-    omega (arith, sum_by-cons length (f x) (map f xs), sum_by-cons g x xs, h x, counted_mapped f g xs h)
-
-pub enough_places : (h : HeapState) (pages : List ℕ)
-    → sum_by length (map (draft_of h) pages) ≤ length (plan_of h pages)
-enough_places h pages =
-    let entries = counted_mapped (draft_of h) (λ n. length (live_offsets h n)) pages
-    (λ n. length-map (live_offsets h n) (draft_entry h n)) in
-    let sizes = counted_flat (draft_sizes h) (λ n. length (live_offsets h n)) pages
-    (λ n. length-map (live_offsets h n) (draft_size h n)) in
-    let places = places_length h.store.words 0 0 (flat_map (draft_sizes h) pages) in
-    let planned = ap length (sizes_planned h pages) in
-    omega (arith, entries, sizes, places, planned)
 
 -- places
 
@@ -111,60 +85,195 @@ places_counted h pages n e i p at =
     let low = plans.places_counted h.store.words 0 0 (map (object_words h) (live_objects h pages)) i p at in
     omega (arith, e, low)
 
--- forwarding tables
+-- drafts
 
-pub drafts_rise : (h : HeapState) (pages : List ℕ) → IsHeap h
-    → Each (map (draft_of h) pages) (AreRising h.config.words 0)
-unfolding live_offsets
-drafts_rise h [] d i fs e = absurd (cc)
-drafts_rise h (n ∷ ns) d zero fs e = subst (AreRising h.config.words 0) (same_Some _ _ e)
-    (side_rises h.config.words 0 (of_page h.live n) (λ o. address_of h n 0) (row_on h.live n
-    (λ i row a. omega (arith, row_short h.store h.live i row d.live a, d.sizes.words))))
+-- a property of each place of drafts is one of each of theirs
+each_flat : (P : ℕ × ℕ → Type 0) (ps qs : List (ℕ × ℕ)) → Each (ps ++ qs) P → Each ps P × Each qs P
+each_flat P [] qs h = ((λ i x e. absurd (cc)), h)
+each_flat P (p ∷ ps) qs h =
+    let rest = each_flat P ps qs (λ i. h (suc i)) in ((λ i x e. by_index i x e rest.0), rest.1)
   where
-    row_on : (rows : List (List Bool)) (n : ℕ) → Each rows (λ row. length row ≤ h.config.words)
-        → 0 + length (of_page rows n) ≤ h.config.words
-    row_on rows zero k = omega arith
-    row_on [] (suc i) k = omega arith
-    row_on (row ∷ rows) (suc zero) k = omega (arith, k zero row refl)
-    row_on (row ∷ rows) (suc (suc i)) k = row_on rows (suc i) (λ j. k (suc j))
-drafts_rise h (n ∷ ns) d (suc i) fs e = drafts_rise h ns d i fs e
+    by_index : (i : ℕ) (x : ℕ × ℕ) → slice_get (p ∷ ps) i ≡ Some x → Each ps P → P x
+    by_index zero x e rest = subst P (same_Some p x e) (h zero p refl)
+    by_index (suc i) x e rest = rest i x e
 
--- the forwarding tables that are stored are the settled ones
-put_is : (h : HeapState) (ts pages : List ℕ) (ps : List (ℕ × ℕ)) (sides : List (List Forwarding))
-    → with_placed_drafts h.store.words ts pages (map (draft_of h) pages) ps sides
-    ≡ with_placed_sides h ts pages ps sides
-put_is h ts [] ps sides = refl
-put_is h ts (n ∷ ns) ps sides =
-    put_is h ts ns (drop (length (draft_of h n)) ps) (set sides (n - 1)
-    (with_places h.store.words ts ps (draft_of h n)))
-    ∙ ap (λ k. with_placed_sides h ts ns (drop k ps) (set sides (n - 1)
-    (with_places h.store.words ts ps (draft_of h n))))
-    (length-map (live_offsets h n) (draft_entry h n))
+row_on : (rows : List (List Bool)) (w n : ℕ) → Each rows (λ row. length row ≤ w) → length (of_page rows n) ≤ w
+row_on rows w zero k = omega arith
+row_on [] w (suc i) k = omega arith
+row_on (row ∷ rows) w (suc zero) k = k zero row refl
+row_on (row ∷ rows) w (suc (suc i)) k = row_on rows w (suc i) (λ j. k (suc j))
 
-pub put_moves : (h : HeapState) (ts pages : List ℕ) (sides : List (List Forwarding)) → IsHeap h
-    → has_twice pages ≡ false
-    → with_placed_drafts h.store.words ts pages (map (draft_of h) pages) (plan_of h pages) sides
-    ≡ with_sides h (moves_of h pages ts) pages sides
-put_moves h ts pages sides d once = put_is h ts pages (plan_of h pages) sides ∙ sym (sides_placed h ts pages sides
-    (λ i row e. row_short h.store h.live i row d.live e) once)
+-- drafts whose places are in the targets are ready for as many
+pub all_ready : (h : HeapState) (w count : ℕ) (pages : List ℕ) (ds : List DraftState) → AreDraftsOf h pages ds
+    → Each h.live (λ row. length row ≤ w) → Each (flat_map places_of ds) (λ p. p.0 < count)
+    → Each (flat_map places_of ds) (λ p. p.1 < w) → Each ds (IsReadyFor w count)
+all_ready h w count pages [] are long counted within i d e = absurd (cc)
+all_ready h w count [] (x ∷ ds) are long counted within i d e = absurd are
+all_ready h w count (n ∷ ns) (x ∷ ds) (is, rest) long counted within zero d e =
+    subst (IsReadyFor w count) (same_Some x d e) (record {
+      short = omega (arith, ap length is.live, row_on h.live w n long);
+      many = is.many;
+      counted = (each_flat (λ p. p.0 < count) x.places (flat_map places_of ds) counted).0;
+      within = (each_flat (λ p. p.1 < w) x.places (flat_map places_of ds) within).0;
+    })
+all_ready h w count (n ∷ ns) (x ∷ ds) (is, rest) long counted within (suc i) d e =
+    all_ready h w count ns ds rest long (each_flat (λ p. p.0 < count) x.places (flat_map places_of ds) counted).1
+    (each_flat (λ p. p.1 < w) x.places (flat_map places_of ds) within).1 i d e
+
+pub plan_ready : (h : HeapState) (count : ℕ) (pages : List ℕ) (ds : List DraftState) → IsHeap h → 0 < h.store.words
+    → AreDraftsOf h pages ds → flat_map places_of ds ≡ plan_of h pages → count ≡ target_count (plan_of h pages)
+    → Each ds (IsReadyFor h.store.words count)
+plan_ready h count pages ds is low are planned many =
+    all_ready h h.store.words count pages ds are (λ i row e. row_short h.store h.live i row is.live e)
+    (subst (λ ps. Each ps (λ p. p.0 < count)) (sym planned) (places_counted h pages count many))
+    (subst (λ ps. Each ps (λ p. p.1 < h.store.words)) (sym planned) (places_within h pages low))
+
+pub drafts_many : (h : HeapState) (pages : List ℕ) (ds : List DraftState) → AreDraftsOf h pages ds
+    → length ds ≡ length pages
+drafts_many h [] [] are = refl
+drafts_many h [] (d ∷ ds) are = absurd are
+drafts_many h (n ∷ ns) [] are = absurd are
+drafts_many h (n ∷ ns) (d ∷ ds) (is, rest) = ap suc (drafts_many h ns ds rest)
 
 -- pages are protected
 
--- targets are opened, forwarding tables stored, and pages protected
-pub protected_is : (h g mid final : HeapState) (ts pages : List ℕ) (drafts : List (List Forwarding)) (ps : List (ℕ × ℕ))
-    (n : ℕ) → IsHeap h → has_twice pages ≡ false → drafts ≡ map (draft_of h) pages → ps ≡ plan_of h pages
+-- targets are opened, drafts become forwarding tables, and pages are protected
+pub protected_is : (h g mid final : HeapState) (ts pages : List ℕ) (ds : List DraftState) (n : ℕ) → IsHeap h
+    → has_twice pages ≡ false → AreDraftsOf h pages ds → flat_map places_of ds ≡ plan_of h pages
     → n ≡ target_count (plan_of h pages) → g ≡ (with_targets n h).0 → ts ≡ (with_targets n h).1
     → g.store.words ≡ h.store.words
-    → mid ≡ record g { sides = with_placed_drafts g.store.words ts pages drafts ps g.sides }
+    → mid ≡ record g { sides = with_settled g.store.words ts pages ds g.sides }
     → final ≡ start_protection mid pages → final ≡ protect h pages
 unfolding protect with_protected start_protection
-protected_is h g mid final ts pages drafts ps n d once drafted_so planned count opened pages_are words put started =
-    let sides : with_placed_drafts g.store.words ts pages drafts ps g.sides
-    ≡ with_sides h (moves_of h pages ts) pages g.sides =
-    ap (λ w. with_placed_drafts w ts pages drafts ps g.sides) words
-    ∙ ap₂ (λ ds qs. with_placed_drafts h.store.words ts pages ds qs g.sides) drafted_so planned
-    ∙ put_moves h ts pages g.sides d once in
+protected_is h g mid final ts pages ds n is once are planned count opened pages_are words put started =
+    let sides : with_settled g.store.words ts pages ds g.sides ≡ with_sides h (moves_of h pages ts) pages g.sides =
+    ap (λ w. with_settled w ts pages ds g.sides) words
+    ∙ sides_settled h ts pages ds g.sides (λ i row e. row_short h.store h.live i row is.live e) once are planned in
     started ∙ ap (λ (m : HeapState). start_protection m pages) put
     ∙ ap (λ (ss : List (List Forwarding)). start_protection (record g { sides = ss }) pages) sides
     ∙ ap₂ (λ (z : HeapState) (us : List ℕ). with_protected h z pages (moves_of h pages us)) opened pages_are
     ∙ ap (λ m. protect_with h pages (with_targets m h)) count
+
+-- drafts are made one after another
+
+-- after the drafts of the first i pages: where their objects end, how many these are, and in how many targets
+pub record AreMade (h : HeapState) (pages : List ℕ) (i : ℕ) (ds : List DraftState) (end : ℕ × ℕ) (objects targets : ℕ)
+    : Type 0 where
+  pub drafts : AreDraftsOf h (take i pages) ds
+  pub placed : places_from h.store.words 0 0 (flat_map (draft_sizes h) pages)
+      ≡ flat_map places_of ds ++ places_from h.store.words end.0 end.1 (flat_map (draft_sizes h) (drop i pages))
+  pub many : objects ≡ length (flat_map places_of ds)
+  pub counted : targets ≡ target_count (flat_map places_of ds)
+  pub near : end.0 ≤ i * 32768
+  pub few : objects ≤ i * 32768
+
+drafts_more : (h : HeapState) (pages : List ℕ) (n : ℕ) (ds : List DraftState) (d : DraftState)
+    → AreDraftsOf h pages ds → IsDraftOf h n d → AreDraftsOf h (pages ++ n ∷ []) (ds ++ d ∷ [])
+drafts_more h [] n [] d are is = (is, tt)
+drafts_more h [] n (x ∷ ds) d are is = absurd are
+drafts_more h (m ∷ ms) n [] d are is = absurd are
+drafts_more h (m ∷ ms) n (x ∷ ds) d (this, rest) is = (this, drafts_more h ms n ds d rest is)
+
+flat_more : (ds : List DraftState) (d : DraftState)
+    → flat_map places_of (ds ++ d ∷ []) ≡ flat_map places_of ds ++ d.places
+flat_more [] d = append-nil d.places
+flat_more (x ∷ ds) d = ap (λ ps. x.places ++ ps) (flat_more ds d)
+    ∙ sym (append_assoc x.places (flat_map places_of ds) d.places)
+
+pub made_next : (h : HeapState) (pages : List ℕ) (i n : ℕ) (ds more : List DraftState) (d : DraftState) (end to : ℕ × ℕ)
+    (objects targets objects2 targets2 : ℕ) → i < length pages → n ≡ get_or pages i 0
+    → AreMade h pages i ds end objects targets → IsDraftOf h n d
+    → ((ns : List ℕ) → places_from h.store.words end.0 end.1 (draft_sizes h n ++ ns)
+    ≡ d.places ++ places_from h.store.words to.0 to.1 ns)
+    → ((ps : List (ℕ × ℕ)) → targets ≡ target_count ps → targets2 ≡ target_count (ps ++ d.places))
+    → objects2 ≡ objects + length d.places → length d.places ≤ 32768 → to.0 ≤ end.0 + 32768 → more ≡ ds ++ d ∷ []
+    → AreMade h pages (i + 1) more to objects2 targets2
+made_next h pages i n ds more d end to objects targets objects2 targets2 l at is this places counted many few near put =
+    again (sym put)
+  where
+    flat : flat_map places_of (ds ++ d ∷ []) ≡ flat_map places_of ds ++ d.places
+    flat = flat_more ds d
+
+    sizes : flat_map (draft_sizes h) (drop i pages) ≡ draft_sizes h n ++ flat_map (draft_sizes h) (drop (i + 1) pages)
+    sizes = ap (flat_map (draft_sizes h)) (drop_more pages i 0 l)
+        ∙ ap (λ m. draft_sizes h m ++ flat_map (draft_sizes h) (drop (i + 1) pages)) (sym at)
+
+    rest : List (ℕ × ℕ)
+    rest = places_from h.store.words to.0 to.1 (flat_map (draft_sizes h) (drop (i + 1) pages))
+
+    made : AreMade h pages (i + 1) (ds ++ d ∷ []) to objects2 targets2
+    made = record {
+      drafts = subst (λ ns. AreDraftsOf h ns (ds ++ d ∷ []))
+          (ap (λ m. take i pages ++ m ∷ []) at ∙ sym (take_more pages i 0 l))
+          (drafts_more h (take i pages) n ds d is.drafts this);
+      placed = is.placed
+          ∙ ap (λ ns. flat_map places_of ds ++ places_from h.store.words end.0 end.1 ns) sizes
+          ∙ ap (λ ps. flat_map places_of ds ++ ps) (places (flat_map (draft_sizes h) (drop (i + 1) pages)))
+          ∙ sym (append_assoc (flat_map places_of ds) d.places rest)
+          ∙ ap (λ ps. ps ++ rest) (sym flat);
+      many = omega (arith, many, is.many, ap length flat, length-append (flat_map places_of ds) d.places);
+      counted = counted (flat_map places_of ds) is.counted ∙ ap target_count (sym flat);
+      near = omega (arith, is.near, near);
+      few = omega (arith, is.few, many, few);
+    }
+
+    again : ds ++ d ∷ [] ≡ more → AreMade h pages (i + 1) more to objects2 targets2
+    again e = subst (λ xs. AreMade h pages (i + 1) xs to objects2 targets2) e made
+
+-- all are made
+module _ (h : HeapState) (pages : List ℕ) (i : ℕ) (ds : List DraftState) (end : ℕ × ℕ) (objects targets : ℕ)
+    (is : AreMade h pages i ds end objects targets) (l : length pages ≤ i) where
+  pub all_drafted : AreDraftsOf h pages ds
+  all_drafted = subst (λ ns. AreDraftsOf h ns ds) (take_all i pages l) is.drafts
+
+  pub all_planned : flat_map places_of ds ≡ plan_of h pages
+  all_planned = sym (append-nil (flat_map places_of ds))
+      ∙ ap (λ ns. flat_map places_of ds ++ places_from h.store.words end.0 end.1 (flat_map (draft_sizes h) ns))
+      (sym (drop_all i pages l))
+      ∙ sym is.placed ∙ sizes_planned h pages
+
+  pub objects_planned : objects ≡ length (plan_of h pages)
+  objects_planned = is.many ∙ ap length all_planned
+
+  pub targets_planned : targets ≡ target_count (plan_of h pages)
+  targets_planned = is.counted ∙ ap target_count all_planned
+
+-- the targets with one page more
+pub count_none : (targets : ℕ) (ps qs : List (ℕ × ℕ)) → length qs ≡ 0 → targets ≡ target_count ps
+    → targets ≡ target_count (ps ++ qs)
+count_none targets ps [] e is = is ∙ ap target_count (sym (append-nil ps))
+count_none targets ps (q ∷ qs) e is = absurd (omega (arith, e))
+
+pub count_some : (n : ℕ) (ps qs : List (ℕ × ℕ)) → 0 < length qs → target_count qs ≡ n → n ≡ target_count (ps ++ qs)
+count_some n ps [] l is = absurd (omega (arith, l))
+count_some n ps (q ∷ qs) l is = sym is ∙ sym (behind ps)
+  where
+    behind : (ps : List (ℕ × ℕ)) → target_count (ps ++ q ∷ qs) ≡ target_count (q ∷ qs)
+    behind [] = refl
+    behind (p ∷ []) = refl
+    behind (p ∷ r ∷ ps) = behind (r ∷ ps)
+
+-- a draft of a live bitmap is one of its page
+pub result_drafted : {E : Type 0} (h : HeapState) (n : ℕ) (row : List Bool) (r : Result DraftState E)
+    → row ≡ of_page h.live n → IfOk r (λ d. d.live ≡ row) → IfOk r (λ d. length d.places ≡ count_by (λ b. b) d.live)
+    → IfOk r (IsDraftOf h n)
+result_drafted h n row (Err e) is live many = tt
+result_drafted h n row (Ok d) is live many = record { live = live ∙ is; many = many }
+
+pub result_placed : {E : Type 0} (w : ℕ) (from to : ℕ × ℕ) (sizes page : List ℕ) (r : Result DraftState E) → sizes ≡ page
+    → IfOk r (λ d. (ns : List ℕ) → places_from w from.0 from.1 (sizes ++ ns) ≡ d.places ++ places_from w to.0 to.1 ns)
+    → IfOk r (λ d. (ns : List ℕ) → places_from w from.0 from.1 (page ++ ns) ≡ d.places ++ places_from w to.0 to.1 ns)
+result_placed w from to sizes page (Err e) is h = tt
+result_placed w from to sizes page (Ok d) is h = λ ns.
+    ap (λ xs. places_from w from.0 from.1 (xs ++ ns)) (sym is) ∙ h ns
+
+-- one of no objects is one of a page without any
+pub none_drafted : (h : HeapState) (n : ℕ) (d : DraftState) → d ≡ record { live = []; places = [] }
+    → [] ≡ of_page h.live n → IsDraftOf h n d
+none_drafted h n d e is = subst (IsDraftOf h n) (sym e) (record { live = is; many = refl })
+
+pub none_placed : (w : ℕ) (end : ℕ × ℕ) (sizes : List ℕ) (d : DraftState) (ns : List ℕ)
+    → d ≡ record { live = []; places = [] } → [] ≡ sizes
+    → places_from w end.0 end.1 (sizes ++ ns) ≡ d.places ++ places_from w end.0 end.1 ns
+none_placed w end sizes d ns e is = ap (λ (xs : List ℕ). places_from w end.0 end.1 (xs ++ ns)) (sym is)
+    ∙ ap (λ (x : DraftState). x.places ++ places_from w end.0 end.1 ns) (sym e)

@@ -1,8 +1,12 @@
 -- Pages that may be protected: they are closed, they have numbers, and each is named once.
-use Rattle.std.proofs.Common.{◌≡◌, ℕ, zero, suc, ◌+◌, ◌<◌, ◌≤◌, false, List, [], ◌∷◌, length, take, drop}
+use Rattle.std.proofs.Common.{◌≡◌, ℕ, zero, suc, ◌+◌, ◌<◌, ◌≤◌, Bool, true, false, eqb, List, [], ◌∷◌, length, take, drop}
 use Rattle.std.proofs.Common.{get_or, refl, sym, ◌∙◌, ap, subst, arith}
 use Rattle.std.specs.Prelude.{Result, Ok}
-use Rattle.std.proofs.lemmas.Bool.{or_parts}
+use Rattle.std.specs.Prelude.{◌==◌, ◌||◌}
+use Rattle.std.specs.List.{AllByRecursion, IsDistinct, list_any}
+use Rattle.std.proofs.lemmas.Bool.{or_parts, true≢false}
+use Rattle.std.proofs.lemmas.Bool.Decides.{nat_tests}
+use Rattle.std.proofs.lemmas.Map.Steps.{length-le_from_distinct_below}
 use Rattle.model.specs.Outcome.{WorkerPasses}
 use Rattle.model.specs.declared.steps.Step.TheVariants as steps
 use Rattle.model.specs.declared.records.PageState.TheVariants.{Unused, Closed}
@@ -68,3 +72,31 @@ named_once h (n ∷ ns) e = (or_parts _ _ e).1
 pub passed_once : (h : HeapState) (w : ℕ) (pages : List ℕ) → WorkerPasses h w (steps.Protect pages)
     → has_twice pages ≡ false
 passed_once h w pages g = named_once h pages (worker_index h w (steps.Protect pages) g)
+
+-- they are few: at most one for each number up to the greatest
+pub few_pages : (h : HeapState) (ns : List ℕ) → has_twice ns ≡ false → Each ns (λ n. n ≤ h.store.count)
+    → length ns ≤ h.store.count + 1
+unfolding IsDistinct
+few_pages h ns once high = length-le_from_distinct_below ns (h.store.count + 1) (distinct ns once) (λ q e. below ns high q e)
+  where
+    others : (n : ℕ) (ms : List ℕ) → list_any (λ m. m == n) ms ≡ false → AllByRecursion (λ m. eqb n m ≡ false) ms
+    others n [] e = tt
+    others n (m ∷ ms) e =
+        let (this, rest) = or_parts (m == n) (list_any (λ m. m == n) ms) e in
+        (grind (arith, nat_tests, this), others n ms rest)
+
+    distinct : (ns : List ℕ) → has_twice ns ≡ false → IsDistinct eqb ns
+    distinct [] e = tt
+    distinct (n ∷ ns) e =
+        let (this, rest) = or_parts (list_any (λ m. m == n) ns) (has_twice ns) e in
+        (others n ns this, distinct ns rest)
+
+    below : (ns : List ℕ) → Each ns (λ n. n ≤ h.store.count) → (q : ℕ) → list_any (eqb q) ns ≡ true
+        → q < h.store.count + 1
+    below [] high q e = absurd (true≢false (sym e))
+    below (n ∷ ns) high q e = by_test (eqb q n) refl e (below ns (λ i. high (suc i)) q)
+      where
+        by_test : (b : Bool) → eqb q n ≡ b → (b || list_any (eqb q) ns) ≡ true
+            → (list_any (eqb q) ns ≡ true → q < h.store.count + 1) → q < h.store.count + 1
+        by_test true f k rest = let is : q ≡ n = grind (arith, nat_tests, f) in omega (arith, is, high 0 n refl)
+        by_test false f k rest = rest k

@@ -1,11 +1,11 @@
--- Forwarding tables whose entries are given the next places are those made by moves.
+-- Forwarding tables that drafts become are those made by moves.
 use Rattle.std.proofs.Common.{◌≡◌, ◌≤◌, inl, inr, ℕ, zero, suc, ◌+◌, ◌-◌, ◌*◌, ◌<◌, Bool, true, false, cond}
-use Rattle.std.proofs.Common.{List, [], ◌∷◌, ◌++◌, length, map, drop, set, ◌==◌, eq-eqb, ne_eqb, Some}
+use Rattle.std.proofs.Common.{List, [], ◌∷◌, ◌++◌, length, map, set, replicate, get_or, count_by, ◌==◌, eq-eqb, ne_eqb, Some}
 use Rattle.std.proofs.Common.{refl, sym, ◌∙◌, ap, subst, arith}
 use Rattle.std.specs.List.{slice_get, flat_map, list_any}
 use Rattle.std.specs.Prelude.{zip}
 use Rattle.std.proofs.lemmas.Bool.{or_parts, true≢false}
-use Rattle.std.proofs.lemmas.List.{length-map}
+use Rattle.std.proofs.lemmas.List.{get_or-replicate, length-map}
 use Rattle.std.proofs.lemmas.Nat.{same_from_place}
 use Rattle.std.proofs.lemmas.Option.{slice_get_within}
 use Rattle.model.specs.declared.records.Forwarding.{Forwarding}
@@ -15,9 +15,12 @@ use Rattle.model.specs.Plans.{places_from, offsets_from, live_offsets, live_on, 
 use Rattle.model.specs.Plans.{object_words, plan_of, address_in, moves_of, place_of, side_of, with_sides}
 use Rattle.model.specs.Protections.{has_twice}
 use Rattle.model.specs.States.{HeapState}
-use Rattle.model.proofs.Lists.{none_passes}
+use Rattle.forward.specs.Drafts.{DraftState, settled}
+use Rattle.forward.specs.Ranked.{entries_of}
+use Rattle.forward.proofs.Ranked.{entries_many, entry_read, offsets_many}
+use Rattle.model.proofs.Lists.{none_passes, same_lists}
 use Rattle.model.proofs.Plans.{IsIn, in_either, in_at, mapped_in, in_objects, offset_told, places_length}
-use Rattle.relocate.specs.Drafts.{draft_of, with_places, with_placed_sides}
+use Rattle.relocate.specs.Drafts.{AreDraftsOf, IsDraftOf, places_of, with_settled}
 
 -- lists without repeats
 
@@ -141,55 +144,135 @@ planned_moves h pages targets long once =
     (length-map places (address_in h.store.words targets) ∙ places_length h.store.words 0 0 sizes
     ∙ length-map objects (object_words h))
 
--- entries and their places
+-- drafts that become forwarding tables
 
--- the entries of a page whose objects begin at these offsets are settled, followed by those of later pages
-entries_settled : (words start head : ℕ) (targets : List ℕ) (moves : List (ℕ × ℕ)) (offsets later : List ℕ)
-    (ps : List (ℕ × ℕ)) → AreMoved moves (map (λ o. start + o) offsets ++ later) (map (address_in words targets) ps)
-    → map (λ o. record { offset = o; to = place_of moves (start + o); copied = false }) offsets
-    ≡ with_places words targets ps (map (λ o. record { offset = o; to = head; copied = false }) offsets)
-entries_settled words start head targets moves [] later ps k = refl
-entries_settled words start head targets moves (o ∷ os) later [] k = absurd k
-entries_settled words start head targets moves (o ∷ os) later (p ∷ ps) (here, rest) = λ i.
-    record { offset = o; to = here i; copied = false }
-    ∷ entries_settled words start head targets moves os later ps rest i
+-- entries at these offsets with these places
+abbrev pub placed_entries : ℕ → List ℕ → List (ℕ × ℕ) → List ℕ → List Forwarding
+placed_entries words targets ps [] = []
+placed_entries words targets [] (o ∷ os) = []
+placed_entries words targets (p ∷ ps) (o ∷ os) =
+    record { offset = o; to = address_in words targets p; copied = false } ∷ placed_entries words targets ps os
+
+placed_many : (words : ℕ) (targets : List ℕ) (ps : List (ℕ × ℕ)) (os : List ℕ) → length ps ≡ length os
+    → length (placed_entries words targets ps os) ≡ length ps
+placed_many words targets [] [] e = refl
+placed_many words targets [] (o ∷ os) e = refl
+placed_many words targets (p ∷ ps) [] e = absurd (omega (arith, e))
+placed_many words targets (p ∷ ps) (o ∷ os) e = ap suc (placed_many words targets ps os (omega (arith, e)))
+
+placed_read : (words : ℕ) (targets : List ℕ) (ps : List (ℕ × ℕ)) (os : List ℕ) (i : ℕ) → length ps ≡ length os
+    → i < length ps → slice_get (placed_entries words targets ps os) i ≡ Some (record {
+      offset = get_or os i 0;
+      to = get_or (map (address_in words targets) ps) i 0;
+      copied = false;
+    })
+placed_read words targets [] os i e l = absurd (omega (arith, l))
+placed_read words targets (p ∷ ps) [] i e l = absurd (omega (arith, e))
+placed_read words targets (p ∷ ps) (o ∷ os) zero e l = refl
+placed_read words targets (p ∷ ps) (o ∷ os) (suc i) e l =
+    placed_read words targets ps os i (omega (arith, e)) (omega (arith, l))
+
+-- a forwarding table has an entry for each live object, with its place
+pub settled_placed : (words : ℕ) (targets : List ℕ) (d : DraftState) → length d.places ≡ count_by (λ b. b) d.live
+    → settled words targets d ≡ placed_entries words targets d.places (offsets_from 0 d.live)
+unfolding settled
+settled_placed words targets d many = same_lists v w
+    (entries_many d.live addresses flags ∙ addresses_many ∙ sym (placed_many words targets d.places offsets same))
+    (λ i l. by_number i (omega (arith, l, entries_many d.live addresses flags)))
+  where
+    offsets : List ℕ
+    offsets = offsets_from 0 d.live
+
+    addresses : List ℕ
+    addresses = map (address_in words targets) d.places
+
+    flags : List Bool
+    flags = replicate (length d.places) false
+
+    v : List Forwarding
+    v = entries_of d.live addresses flags
+
+    w : List Forwarding
+    w = placed_entries words targets d.places offsets
+
+    same : length d.places ≡ length offsets
+    same = many ∙ sym (offsets_many 0 d.live)
+
+    addresses_many : length addresses ≡ length d.places
+    addresses_many = length-map d.places (address_in words targets)
+
+    by_number : (i : ℕ) → i < length addresses → slice_get v i ≡ slice_get w i
+    by_number i l =
+        let there : i < length d.places = omega (arith, l, addresses_many) in
+        let flag : get_or flags i false ≡ false = get_or-replicate (length d.places) i false false there in
+        entry_read d.live addresses flags i l
+        ∙ (λ k. Some (record { offset = get_or offsets i 0; to = get_or addresses i 0; copied = flag k }))
+        ∙ sym (placed_read words targets d.places offsets i same there)
+
+-- the entries of a page whose objects begin at these offsets go where moves say
+entries_settled : (words start : ℕ) (targets : List ℕ) (moves : List (ℕ × ℕ)) (offsets later : List ℕ)
+    (ps qs : List (ℕ × ℕ)) → length ps ≡ length offsets
+    → AreMoved moves (map (λ o. start + o) offsets ++ later) (map (address_in words targets) (ps ++ qs))
+    → placed_entries words targets ps offsets
+    ≡ map (λ o. record { offset = o; to = place_of moves (start + o); copied = false }) offsets
+entries_settled words start targets moves [] later ps qs e k = refl
+entries_settled words start targets moves (o ∷ os) later [] qs e k = absurd (omega (arith, e))
+entries_settled words start targets moves (o ∷ os) later (p ∷ ps) qs e (here, rest) =
+    let to : address_in words targets p ≡ place_of moves (start + o) = sym here in
+    λ i. record { offset = o; to = to i; copied = false }
+    ∷ entries_settled words start targets moves os later ps qs (omega (arith, e)) rest i
 
 -- the objects of later pages go to the places after them
 moved_behind : (words start : ℕ) (targets : List ℕ) (moves : List (ℕ × ℕ)) (offsets later : List ℕ)
-    (ps : List (ℕ × ℕ)) → AreMoved moves (map (λ o. start + o) offsets ++ later) (map (address_in words targets) ps)
-    → AreMoved moves later (map (address_in words targets) (drop (length offsets) ps))
-moved_behind words start targets moves [] later ps k = k
-moved_behind words start targets moves (o ∷ os) later [] k = absurd k
-moved_behind words start targets moves (o ∷ os) later (p ∷ ps) (here, rest) =
-    moved_behind words start targets moves os later ps rest
+    (ps qs : List (ℕ × ℕ)) → length ps ≡ length offsets
+    → AreMoved moves (map (λ o. start + o) offsets ++ later) (map (address_in words targets) (ps ++ qs))
+    → AreMoved moves later (map (address_in words targets) qs)
+moved_behind words start targets moves [] later [] qs e k = k
+moved_behind words start targets moves [] later (p ∷ ps) qs e k = absurd (omega (arith, e))
+moved_behind words start targets moves (o ∷ os) later [] qs e k = absurd (omega (arith, e))
+moved_behind words start targets moves (o ∷ os) later (p ∷ ps) qs e (here, rest) =
+    moved_behind words start targets moves os later ps qs (omega (arith, e)) rest
 
-side_settled : (h : HeapState) (targets : List ℕ) (moves : List (ℕ × ℕ)) (n : ℕ) (later : List ℕ) (ps : List (ℕ × ℕ))
-    → AreMoved moves (live_on h n ++ later) (map (address_in h.store.words targets) ps)
-    → side_of h moves n ≡ with_places h.store.words targets ps (draft_of h n)
-unfolding side_of
-side_settled h targets moves n later ps k =
-    entries_settled h.store.words (n * h.store.words) (n * h.store.words + 0) targets moves (live_offsets h n) later ps
-    k
+module _ (h : HeapState) (n : ℕ) (d : DraftState) (is : IsDraftOf h n d) where
+  offsets_are : offsets_from 0 d.live ≡ live_offsets h n
+  unfolding live_offsets
+  offsets_are = ap (offsets_from 0) is.live
+
+  places_are : length d.places ≡ length (live_offsets h n)
+  places_are = is.many ∙ sym (offsets_many 0 d.live) ∙ ap length offsets_are
+
+  side_settled : (targets : List ℕ) (moves : List (ℕ × ℕ)) (later : List ℕ) (qs : List (ℕ × ℕ))
+      → AreMoved moves (live_on h n ++ later) (map (address_in h.store.words targets) (d.places ++ qs))
+      → settled h.store.words targets d ≡ side_of h moves n
+  unfolding side_of
+  side_settled targets moves later qs k = settled_placed h.store.words targets d is.many
+      ∙ ap (placed_entries h.store.words targets d.places) offsets_are
+      ∙ entries_settled h.store.words (n * h.store.words) targets moves (live_offsets h n) later d.places qs places_are k
 
 -- pages and their places
 
-pages_settled : (h : HeapState) (targets : List ℕ) (moves : List (ℕ × ℕ)) (pages : List ℕ) (ps : List (ℕ × ℕ))
-    (sides : List (List Forwarding))
-    → AreMoved moves (flat_map (live_on h) pages) (map (address_in h.store.words targets) ps)
-    → with_sides h moves pages sides ≡ with_placed_sides h targets pages ps sides
-pages_settled h targets moves [] ps sides k = refl
-pages_settled h targets moves (n ∷ ns) ps sides k =
+pages_settled : (h : HeapState) (targets : List ℕ) (moves : List (ℕ × ℕ)) (pages : List ℕ) (ds : List DraftState)
+    (sides : List (List Forwarding)) → AreDraftsOf h pages ds
+    → AreMoved moves (flat_map (live_on h) pages) (map (address_in h.store.words targets) (flat_map places_of ds))
+    → with_settled h.store.words targets pages ds sides ≡ with_sides h moves pages sides
+pages_settled h targets moves [] [] sides d k = refl
+pages_settled h targets moves [] (x ∷ ds) sides d k = absurd d
+pages_settled h targets moves (n ∷ ns) [] sides d k = absurd d
+pages_settled h targets moves (n ∷ ns) (x ∷ ds) sides (is, rest) k =
     let later = flat_map (live_on h) ns in
     let words = h.store.words in
-    ap (λ side. with_sides h moves ns (set sides (n - 1) side)) (side_settled h targets moves n later ps k)
-    ∙ pages_settled h targets moves ns (drop (length (live_offsets h n)) ps)
-    (set sides (n - 1) (with_places words targets ps (draft_of h n)))
-    (moved_behind words (n * words) targets moves (live_offsets h n) later ps k)
+    ap (λ side. with_settled words targets ns ds (set sides (n - 1) side))
+    (side_settled h n x is targets moves later (flat_map places_of ds) k)
+    ∙ pages_settled h targets moves ns ds (set sides (n - 1) (side_of h moves n)) rest
+    (moved_behind words (n * words) targets moves (live_offsets h n) later x.places (flat_map places_of ds)
+    (places_are h n x is) k)
 
--- giving each draft the next places of the plan makes the forwarding tables of the moves
-pub sides_placed : (h : HeapState) (targets pages : List ℕ) (sides : List (List Forwarding))
-    → Each h.live (λ row. length row ≤ h.store.words) → has_twice pages ≡ false
-    → with_sides h (moves_of h pages targets) pages sides ≡ with_placed_sides h targets pages (plan_of h pages) sides
-sides_placed h targets pages sides long once =
-    pages_settled h targets (moves_of h pages targets) pages (plan_of h pages) sides
-    (planned_moves h pages targets long once)
+-- drafts with the places of a plan become the forwarding tables of the moves
+pub sides_settled : (h : HeapState) (targets pages : List ℕ) (ds : List DraftState) (sides : List (List Forwarding))
+    → Each h.live (λ row. length row ≤ h.store.words) → has_twice pages ≡ false → AreDraftsOf h pages ds
+    → flat_map places_of ds ≡ plan_of h pages
+    → with_settled h.store.words targets pages ds sides ≡ with_sides h (moves_of h pages targets) pages sides
+sides_settled h targets pages ds sides long once are planned =
+    pages_settled h targets (moves_of h pages targets) pages ds sides are
+    (subst (λ ps. AreMoved (moves_of h pages targets) (flat_map (live_on h) pages)
+    (map (address_in h.store.words targets) ps)) (sym planned) (planned_moves h pages targets long once))

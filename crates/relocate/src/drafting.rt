@@ -1,6 +1,6 @@
 //! What is planned before pages are protected: places for the live objects of pages.
 
-ghost use Rattle.std.specs.Prelude.{◌≡◌, ◌+◌, ◌<◌, ◌≤◌, ◌^◌, ◌++◌, ℕ, List, length, map, IfOk};
+ghost use Rattle.std.specs.Prelude.{◌≡◌, ◌+◌, ◌<◌, ◌≤◌, ◌^◌, ◌++◌, ℕ, List, length, map, count_by, IfOk};
 ghost use Rattle.std.specs.List.{flat_map};
 ghost use Rattle.model.specs.Owning.{Each};
 ghost use Rattle.model.specs.Plans.{offsets_from, places_from, plan_of, target_count};
@@ -31,8 +31,38 @@ fn sizes_on(alloc: Global, heap: &Heap, page: u32, row: &Row) -> Result<Sizes, A
     Ok(sizes)
 }
 
-/// Plans places for the live objects of a page, by the page's number from 1, next fit behind what ends at `end`. Then
-/// `end` is where they end. A page without a record has no live objects. Fails only if out of memory.
+/// Plans places for the live objects of a page, by the page's number from 1 and its live bitmap, next fit behind what
+/// ends at `end`. Then `end` is where they end. Fails only if out of memory.
+fn draft_row(
+    alloc: Global,
+    heap: &Heap,
+    page: u32,
+    row: &Row,
+    end: &mut Slot,
+) -> Result<Draft, AllocError>
+    requires low { 0 < page }
+    requires high { page ≤ heap.now.store.count }
+    requires size { length row.now ≤ heap.now.store.words }
+    requires few { end.old.0 < 2 ^ 62 }
+    ensures live { IfOk result (λ d. d.live ≡ row.now) }
+    ensures many { IfOk result (λ d. length d.places ≡ count_by (λ b. b) d.live) }
+    ensures places { IfOk result (λ d. (ns : List ℕ) → places_from heap.now.store.words end.old.0 end.old.1
+        (map (draft_size heap.now page) (offsets_from 0 row.now) ++ ns)
+        ≡ d.places ++ places_from heap.now.store.words end.new.0 end.new.1 ns) }
+    ensures counted { IfOk result (λ d. 0 < length d.places → target_count d.places ≡ end.new.0 + 1) }
+    ensures near { IfOk result (λ d. end.new.0 ≤ end.old.0 + MOST_WORDS) }
+{
+    heap.law();
+    let sizes = sizes_on(alloc, heap, page, row)?;
+    let words = heap.memory().page_words();
+    let places = Runs::new(alloc, words, end, sizes)?;
+    let live = row.copy(alloc)?;
+    let draft = Draft::new(alloc, live, places)?;
+    Ok(draft)
+}
+
+/// Plans places for the live objects of a page as `draft_row`, by the page's number from 1. A page without a record has
+/// no live objects.
 #[tactic(auto, unfolding(model::specs::Plans::live_offsets))]
 fn draft_page(alloc: Global, heap: &Heap, page: u32, end: &mut Slot) -> Result<Draft, AllocError>
     requires low { 0 < page }
@@ -43,19 +73,12 @@ fn draft_page(alloc: Global, heap: &Heap, page: u32, end: &mut Slot) -> Result<D
         → places_from heap.now.store.words end.old.0 end.old.1 (draft_sizes heap.now page ++ ns)
         ≡ d.places ++ places_from heap.now.store.words end.new.0 end.new.1 ns) }
     ensures counted { IfOk result (λ d. 0 < length d.places → target_count d.places ≡ end.new.0 + 1) }
-    ensures near { end.new.0 ≤ end.old.0 + MOST_WORDS }
+    ensures near { IfOk result (λ d. end.new.0 ≤ end.old.0 + MOST_WORDS) }
 {
     heap.law();
     match heap.live().get((page - 1) as usize) {
         None => Ok(Draft::empty(alloc)),
-        Some(row) => {
-            let sizes = sizes_on(alloc, heap, page, row)?;
-            let words = heap.memory().page_words();
-            let places = Runs::new(alloc, words, end, sizes)?;
-            let live = row.copy(alloc)?;
-            let draft = Draft::new(alloc, live, places)?;
-            Ok(draft)
-        }
+        Some(row) => draft_row(alloc, heap, page, row, end),
     }
 }
 

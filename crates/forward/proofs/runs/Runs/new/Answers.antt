@@ -1,5 +1,5 @@
 use Rattle.std.proofs.Common.{◌∙◌, refl}
-use Rattle.forward.proofs.Packed.{placed_next}
+use Rattle.forward.proofs.Packed.{placed_next, places_many}
 use Rattle.forward.proofs.runs.Runs.new.Goals as goal
 
 pub loop-number-preserved : goal.loop-number-preserved
@@ -14,3 +14,6 @@ loop-number-preserved c =
       offset = c.place.inside.offset;
     })
     c.in_ok-last.last c.add_run.new.runs.items _ c.in_ok-last.ensures.last c.in_ok-last.ensures.runs refl
+
+pub returns-clause-many : goal.returns-clause-many
+returns-clause-many c = places_many _ c.loop-number.more.items 0 0 c.args.sizes
