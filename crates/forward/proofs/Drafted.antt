@@ -29,19 +29,18 @@ module _ (w : ℕ) (ts : List ℕ) (ps : List (ℕ × ℕ)) (few : w ≤ 32768) 
       address_paged w (get_or ts p.0 0) p.1 few (low p.0 _ at) (high p.0 _ at) (within i p e)
 
   -- places in targets on pages have addresses
-  pub places_paged : (xs : List ℕ) → xs ≡ map (address_in w ts) ps → Each xs IsAddress
-  places_paged xs e i a at = by_place (slice_get ps i) refl
-      (sym (slice_get-map (address_in w ts) ps i) ∙ sym (ap (λ zs. slice_get zs i) e) ∙ at)
+  pub places_paged : Each (map (address_in w ts) ps) IsAddress
+  places_paged i a at = by_place (slice_get ps i) refl (sym (slice_get-map (address_in w ts) ps i) ∙ at)
     where
       by_place : (o : Option (ℕ × ℕ)) → slice_get ps i ≡ o → option_map (address_in w ts) o ≡ Some a → IsAddress a
       by_place None f k = absurd (cc)
       by_place (Some p) f k = subst IsAddress (same_Some _ _ k) (place_paged i p f)
 
 -- the entries are those of the places on these pages
-pub settled_is : (w : ℕ) (ts : List ℕ) (d : DraftState) (live copied : List Bool) (places : List (ℕ × ℕ))
-    (xs bs : List ℕ) → record { live = live; places = places } ≡ d → copied ≡ replicate (length places) false
-    → xs ≡ map (address_in w ts) places → bs ≡ xs → entries_of live bs copied ≡ settled w ts d
+pub settled_is : (w : ℕ) (ts : List ℕ) (d : DraftState) (live copied : List Bool) (places : List (ℕ × ℕ)) (xs : List ℕ)
+    → record { live = live; places = places } ≡ d → copied ≡ replicate (length places) false
+    → xs ≡ map (address_in w ts) places → entries_of live xs copied ≡ settled w ts d
 unfolding settled
-settled_is w ts d live copied places xs bs is flags on same =
-    ap (λ zs. entries_of live zs copied) (same ∙ on)
+settled_is w ts d live copied places xs is flags on =
+    ap (λ zs. entries_of live zs copied) on
     ∙ ap (entries_of live (map (address_in w ts) places)) flags ∙ ap (settled w ts) is

@@ -6,6 +6,7 @@ pub mod Copies
 pub mod Plans
 pub mod Summed
 pub mod Packed
+pub mod Bases
 pub mod Drafted
 pub mod Planned
 pub mod Totals

@@ -1,18 +1,18 @@
 -- Objects are placed run by run.
-use Rattle.std.proofs.Common.{◌≡◌, ◌≢◌, ℕ, zero, suc, ◌+◌, ◌-◌, ◌*◌, ◌<◌, ◌≤◌, Bool, true, false, cond, nat_le, List, [], ◌∷◌}
-use Rattle.std.proofs.Common.{◌++◌, length, take, drop, map, set, get_or, Some, refl, sym, ◌∙◌, ap, ap₂, subst, arith}
-use Rattle.std.specs.Prelude.{◌==◌, option_map}
+use Rattle.std.proofs.Common.{◌≡◌, ◌≢◌, ℕ, zero, suc, ◌+◌, ◌-◌, ◌^◌, ◌<◌, ◌≤◌, Bool, true, false, cond, nat_le, List, [], ◌∷◌}
+use Rattle.std.proofs.Common.{◌++◌, length, take, drop, Some, refl, sym, ◌∙◌, ap, ap₂, subst, arith}
+use Rattle.std.specs.Prelude.{◌==◌}
 use Rattle.std.specs.List.{slice_get, sum_by}
 use Rattle.std.proofs.lemmas.Bool.{leb-true, leb-false}
 use Rattle.std.proofs.lemmas.Bool.Decides.{nat_tests}
 use Rattle.std.proofs.lemmas.List.{append_assoc, drop_all, take_all}
 use Rattle.std.proofs.lemmas.List.Sums.{sum_by-cons}
-use Rattle.std.proofs.lemmas.Option.{get_or_from_slice_get, same_Some, slice_get-map}
-use Rattle.model.specs.Plans.{address_in, places_from, target_count}
+use Rattle.std.proofs.lemmas.Option.{same_Some}
+use Rattle.model.specs.Plans.{places_from, target_count}
 use Rattle.forward.specs.declared.runs.Run.{Run}
-use Rattle.forward.specs.Runs.{address_at, last_with, next_place, place_in, places_in, run_of, run_on, runs_with}
+use Rattle.forward.specs.Runs.{AreBegun, last_with, next_place, place_in, places_in, run_of, runs_with}
 use Rattle.forward.specs.Sizes.{words_before}
-use Rattle.forward.proofs.Summed.{before_more}
+use Rattle.forward.proofs.Summed.{before_grows, before_more}
 
 -- the last of these runs
 abbrev last_of : Run → List Run → Run
@@ -42,7 +42,7 @@ run_last r [] i j h l = refl
 run_last r (q ∷ qs) i j (low, h) l = by_test (nat_le q.first j) refl (run_last q qs i j h l)
   where
     by_test : (b : Bool) → nat_le q.first j ≡ b → run_of q qs j ≡ last_of q qs
-        → cond b (run_of q qs j) r ≡ last_of q qs
+        → run_of (cond b q r) qs j ≡ last_of q qs
     by_test true e rest = rest
     by_test false e rest = absurd (omega (arith, low, l, leb-false q.first j e))
 
@@ -53,7 +53,7 @@ run_before r [] q j l = by_test (nat_le q.first j) refl
     by_test : (b : Bool) → nat_le q.first j ≡ b → cond b q r ≡ r
     by_test true e = absurd (omega (arith, l, leb-true q.first j e))
     by_test false e = refl
-run_before r (x ∷ rs) q j l = ap (λ z. cond (nat_le x.first j) z r) (run_before x rs q j l)
+run_before r (x ∷ rs) q j l = run_before (cond (nat_le x.first j) x r) rs q j l
 
 places_before : (r : Run) (rs : List Run) (q : Run) (j b : ℕ) (ns : List ℕ) → j + length ns ≤ q.first
     → places_in r (rs ++ q ∷ []) j b ns ≡ places_in r rs j b ns
@@ -109,6 +109,11 @@ counted_last [] p = refl
 counted_last (q ∷ []) p = refl
 counted_last (q ∷ r ∷ ps) p = counted_last (r ∷ ps) p
 
+knows_more : (ns : List ℕ) (rs : List Run) (q : Run) → AreBegun ns rs → q.before ≤ words_before ns q.first
+    → q.before < 2 ^ 32 → AreBegun ns (rs ++ q ∷ [])
+knows_more ns [] q h l f = (l, f, tt)
+knows_more ns (r ∷ rs) q (a, b, h) l f = (a, b, knows_more ns rs q h l f)
+
 -- the first i objects of these sizes are placed behind what ends at a place: the runs so far, the last one, and where
 -- they end
 pub record ArePlaced (w : ℕ) (end : ℕ × ℕ) (ns : List ℕ) (i : ℕ) (first last : Run) (more : List Run) (at : ℕ × ℕ)
@@ -119,6 +124,7 @@ pub record ArePlaced (w : ℕ) (end : ℕ × ℕ) (ns : List ℕ) (i : ℕ) (fir
   pub begun : Begun more i
   pub here : at ≡ place_in last (words_before ns i)
   pub low : last.before ≤ words_before ns i
+  pub knows : AreBegun ns more
   pub counted : 0 < i → target_count (places_in first more 0 0 (take i ns)) ≡ at.0 + 1
   pub near : at.0 ≤ end.0 + i
 
@@ -131,6 +137,7 @@ none_placed w end ns r e = subst (λ x. ArePlaced w end ns 0 x x [] end) (sym e)
   begun = tt;
   here = let same : end.1 ≡ end.1 + (0 - 0) = omega arith in ap (λ o. (end.0, o)) same;
   low = omega arith;
+  knows = tt;
   counted = λ l. absurd (omega (arith, l));
   near = omega arith;
 })
@@ -142,7 +149,8 @@ with_offset t o = (t, o)
 -- one object more is placed
 module _ (w : ℕ) (end : ℕ × ℕ) (ns : List ℕ) (i n : ℕ) (first last : Run) (more : List Run) (at p : ℕ × ℕ) (r : Run)
     (h : ArePlaced w end ns i first last more at) (e : slice_get ns i ≡ Some n) (next : p ≡ next_place w at n)
-    (is : r ≡ record { first = i; before = words_before ns i; target = p.0; offset = p.1 }) where
+    (is : r ≡ record { first = i; before = words_before ns i; target = p.0; offset = p.1 }) (few : r.before < 2 ^ 32)
+    where
   one : suc i ≡ i + 1
   one = omega arith
 
@@ -187,6 +195,7 @@ module _ (w : ℕ) (end : ℕ × ℕ) (ns : List ℕ) (i n : ℕ) (first last : 
     begun = begun_more more i (i + 1) refl h.begun;
     here = here;
     low = omega (arith, h.low, words);
+    knows = h.knows;
     counted = λ l. counted_with more refl this;
     near = omega (arith, h.near, ap (λ (q : ℕ × ℕ). q.0) there);
   }
@@ -226,6 +235,8 @@ module _ (w : ℕ) (end : ℕ × ℕ) (ns : List ℕ) (i n : ℕ) (first last : 
     begun = begun;
     here = subst (λ q. (p.0, p.1 + n) ≡ place_in q (words_before ns (i + 1))) (sym is) here;
     low = omega (arith, words, ap (λ (q : Run). q.before) is);
+    knows = knows_more ns more r h.knows
+        (omega (arith, ap (λ (q : Run). q.before) is, ap (λ (q : Run). words_before ns q.first) is)) few;
     counted = λ l. counted_with (more ++ r ∷ []) before this;
     near = by_test (nat_le (at.1 + n) w) next;
   }
@@ -288,77 +299,16 @@ pub places_many : (r : Run) (rs : List Run) (i b : ℕ) (ns : List ℕ) → leng
 places_many r rs i b [] = refl
 places_many r rs i b (n ∷ ns) = ap suc (places_many r rs (i + 1) (b + n) ns)
 
--- a place is read by its number
-pub place_read : (r : Run) (rs : List Run) (j b : ℕ) (ns : List ℕ) (i k c : ℕ) → i < length ns → k ≡ j + i
-    → c ≡ b + words_before ns i → slice_get (places_in r rs j b ns) i ≡ Some (place_in (run_of r rs k) c)
-place_read r rs j b [] i k c l e f = absurd (omega (arith, l))
-place_read r rs j b (n ∷ ns) zero k c l e f =
-    let at : j ≡ k = omega (arith, e) in
-    let words : b ≡ c = omega (arith, f) in
-    ap₂ (λ x y. Some (place_in (run_of r rs x) y)) at words
-place_read r rs j b (n ∷ ns) (suc i) k c l e f =
-    place_read r rs (j + 1) (b + n) ns i k c (omega (arith, l)) (omega (arith, e))
-    (omega (arith, f, sum_by-cons (λ (x : ℕ). x) n (take i ns)))
-
--- and so is its address
-pub address_read : (r : Run) (rs : List Run) (ns : List ℕ) (ps : List (ℕ × ℕ)) (i : ℕ) → ps ≡ places_in r rs 0 0 ns
-    → i < length ns → get_or (map address_at ps) i 0 ≡ address_at (place_in (run_of r rs i) (words_before ns i))
-address_read r rs ns ps i e l = get_or_from_slice_get (map address_at ps) i _ 0
-    (slice_get-map address_at ps i ∙ ap (λ qs. option_map address_at (slice_get qs i)) e
-    ∙ ap (option_map address_at) (place_read r rs 0 0 ns i i (words_before ns i) l (omega arith) (omega arith)))
-
--- it is put together from what was found: the run, the words before the object, and the offset behind the run's
-pub address_is : (r q : Run) (rs qs : List Run) (ns : List ℕ) (ps : List (ℕ × ℕ)) (i b n o d : ℕ)
-    → places_in r rs 0 0 ns ≡ ps → i < length ps → qs ≡ rs → q ≡ run_of r qs i → b ≡ words_before ns i
-    → n ≡ b - q.before → o ≡ q.offset → d ≡ n → get_or (map address_at ps) i 0 ≡ q.target + (o + d)
-address_is r q rs qs ns ps i b n o d e l f at words behind offset rest =
-    let run : run_of r rs i ≡ q = ap (λ xs. run_of r xs i) (sym f) ∙ sym at in
-    let is : q.target + (q.offset + (b - q.before)) ≡ q.target + (o + d) = omega (arith, behind, offset, rest) in
-    address_read r rs ns ps i (sym e) (omega (arith, l, ap length e, places_many r rs 0 0 ns))
-    ∙ ap₂ (λ x y. address_at (place_in x y)) run (sym words) ∙ is
-
--- runs are put on pages one after another
-put_at : {X : Type 0} (f : X → X) (xs : List X) (i : ℕ) (d : X) → i < length xs
-    → set (map f (take i xs) ++ drop i xs) i (f (get_or (map f (take i xs) ++ drop i xs) i d))
-    ≡ map f (take (suc i) xs) ++ drop (suc i) xs
-put_at f [] i d l = absurd (omega (arith, l))
-put_at f (y ∷ xs) zero d l = refl
-put_at f (y ∷ xs) (suc i) d l = ap (λ zs. f y ∷ zs) (put_at f xs i d (omega (arith, l)))
-
-pub put_many : {X : Type 0} (f : X → X) (xs ys : List X) (i : ℕ) → ys ≡ map f (take i xs) ++ drop i xs
-    → length ys ≡ length xs
-put_many {X = X} f xs ys i e = ap length e ∙ whole xs i
+-- a run knows no more words than an object of it has before it
+pub run_knows : (ns : List ℕ) (r : Run) (rs : List Run) (i : ℕ) → AreBegun ns rs → r.before ≤ words_before ns i
+    → r.before < 2 ^ 32 → ((run_of r rs i).before ≤ words_before ns i) × ((run_of r rs i).before < 2 ^ 32)
+run_knows ns r [] i h l f = (l, f)
+run_knows ns r (q ∷ qs) i (a, b, h) l f = by_test (nat_le q.first i) refl (run_knows ns q qs i h) (run_knows ns r qs i h l f)
   where
-    whole : (xs : List X) (i : ℕ) → length (map f (take i xs) ++ drop i xs) ≡ length xs
-    whole [] zero = refl
-    whole [] (suc i) = refl
-    whole (x ∷ xs) zero = refl
-    whole (x ∷ xs) (suc i) = ap suc (whole xs i)
-
-pub put_next : {X : Type 0} (f : X → X) (xs ys : List X) (i j : ℕ) (d v : X) → i < length xs → j ≡ i + 1
-    → ys ≡ map f (take i xs) ++ drop i xs → v ≡ f (get_or ys i d) → set ys i v ≡ map f (take j xs) ++ drop j xs
-put_next f xs ys i j d v l e so_far is =
-    let at : suc i ≡ j = omega (arith, e) in
-    ap (set ys i) is ∙ ap (λ zs. set zs i (f (get_or zs i d))) so_far ∙ put_at f xs i d l
-    ∙ ap (λ k. map f (take k xs) ++ drop k xs) at
-
--- places in runs on pages are those of the runs, on these pages
-module _ (w : ℕ) (ts : List ℕ) where
-  run_put : (r : Run) (rs : List Run) (i : ℕ)
-      → run_of (run_on w ts r) (map (run_on w ts) rs) i ≡ run_on w ts (run_of r rs i)
-  run_put r [] i = refl
-  run_put r (q ∷ qs) i = by_test (nat_le q.first i) (run_put q qs i)
-    where
-      by_test : (b : Bool)
-          → run_of (run_on w ts q) (map (run_on w ts) qs) i ≡ run_on w ts (run_of q qs i)
-          → cond b (run_of (run_on w ts q) (map (run_on w ts) qs) i) (run_on w ts r)
-          ≡ run_on w ts (cond b (run_of q qs i) r)
-      by_test true rest = rest
-      by_test false rest = refl
-
-  pub places_put : (r : Run) (rs : List Run) (i b : ℕ) (ns : List ℕ)
-      → map address_at (places_in (run_on w ts r) (map (run_on w ts) rs) i b ns)
-      ≡ map (address_in w ts) (places_in r rs i b ns)
-  places_put r rs i b [] = refl
-  places_put r rs i b (n ∷ ns) =
-      ap₂ (λ q xs. address_at (place_in q b) ∷ xs) (run_put r rs i) (places_put r rs (i + 1) (b + n) ns)
+    by_test : (t : Bool) → nat_le q.first i ≡ t
+        → (q.before ≤ words_before ns i → q.before < 2 ^ 32
+        → ((run_of q qs i).before ≤ words_before ns i) × ((run_of q qs i).before < 2 ^ 32))
+        → ((run_of r qs i).before ≤ words_before ns i) × ((run_of r qs i).before < 2 ^ 32)
+        → ((run_of (cond t q r) qs i).before ≤ words_before ns i) × ((run_of (cond t q r) qs i).before < 2 ^ 32)
+    by_test true e next rest = next (omega (arith, a, before_grows ns q.first i (leb-true q.first i e))) b
+    by_test false e next rest = rest

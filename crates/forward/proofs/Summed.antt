@@ -5,7 +5,7 @@ use Rattle.std.specs.List.{slice_get, sum_by}
 use Rattle.std.proofs.lemmas.Option.{same_Some}
 use Rattle.std.proofs.lemmas.List.Sums.{sum_by-cons}
 use Rattle.model.specs.declared.limits.TheConstants.{MOST_WORDS}
-use Rattle.forward.specs.Sizes.{next_or, sizes_of, AreSums, AreSizes, words_before}
+use Rattle.forward.specs.Sizes.{next_or, sizes_of, sums_of, AreSums, AreSizes, words_before}
 
 -- there is a size for each object
 pub sizes_many : (bs : List ℕ) (t : ℕ) → length (sizes_of bs t) ≡ length bs
@@ -97,16 +97,6 @@ module _ (bs : List ℕ) (t : ℕ) (is : AreSizes bs t) (i : ℕ) (l : i ≤ len
       default (b ∷ bs) zero k = absurd (omega (arith, k))
       default (b ∷ bs) (suc i) k = default bs i (omega (arith, k))
 
--- words before rise
-pub before_rises : (ns : List ℕ) (i j : ℕ) → j ≡ i + 1 → words_before ns i ≤ words_before ns j
-before_rises [] zero j e = omega arith
-before_rises [] (suc i) zero e = absurd (omega (arith, e))
-before_rises [] (suc i) (suc j) e = omega arith
-before_rises (n ∷ ns) zero j e = omega arith
-before_rises (n ∷ ns) (suc i) zero e = absurd (omega (arith, e))
-before_rises (n ∷ ns) (suc i) (suc j) e =
-    omega (arith, before_all n i ns, before_all n j ns, before_rises ns i j (omega (arith, e)))
-
 pub size_is : (ns : List ℕ) (i j a b : ℕ) → j ≡ i + 1 → i < length ns → a ≡ words_before ns j → b ≡ words_before ns i
     → slice_get ns i ≡ Some (a - b)
 size_is ns i j a b e l p q =
@@ -114,3 +104,20 @@ size_is ns i j a b e l p q =
     let same : words_before ns j ≡ words_before ns (suc i) = ap (words_before ns) at in
     let is : words_before ns (suc i) - words_before ns i ≡ a - b = omega (arith, p, q, same) in
     size_read ns i l ∙ ap Some is
+
+-- words before rise
+pub before_grows : (ns : List ℕ) (i j : ℕ) → i ≤ j → words_before ns i ≤ words_before ns j
+before_grows [] zero j l = omega arith
+before_grows [] (suc i) zero l = absurd (omega (arith, l))
+before_grows [] (suc i) (suc j) l = omega arith
+before_grows (n ∷ ns) zero j l = omega arith
+before_grows (n ∷ ns) (suc i) zero l = absurd (omega (arith, l))
+before_grows (n ∷ ns) (suc i) (suc j) l =
+    omega (arith, before_all n i ns, before_all n j ns, before_grows ns i j (omega (arith, l)))
+
+-- the words before each of them are kept
+pub sums_kept : (bs : List ℕ) (t b : ℕ) → AreSums bs t → next_or bs t ≡ b → bs ≡ sums_of b (sizes_of bs t)
+sums_kept [] t b h e = refl
+sums_kept (x ∷ bs) t b (low, h) e =
+    let next : next_or bs t ≡ b + (next_or bs t - x) = omega (arith, e, low) in
+    ap₂ (λ y ys. y ∷ ys) e (sums_kept bs t (b + (next_or bs t - x)) h next)

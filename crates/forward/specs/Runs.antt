@@ -1,5 +1,6 @@
 -- The places of a page's objects, by runs: consecutive objects that go to one target, one directly after the other.
-use Rattle.std.specs.Prelude.{ℕ, ◌+◌, ◌-◌, ◌*◌, ◌==◌, ◌++◌, List, [], ◌∷◌, nat_le, get_or, if◌then◌else◌}
+use Rattle.std.specs.Prelude.{ℕ, ◌+◌, ◌-◌, ◌^◌, ◌<◌, ◌≤◌, ◌==◌, ◌++◌, List, [], ◌∷◌, nat_le, get_or, if◌then◌else◌}
+use Rattle.forward.specs.Sizes.{words_before}
 use Rattle.forward.specs.declared.runs.Run.{Run}
 
 -- the place of n words behind what ends at a place: there, or at the head of the next target if they don't fit
@@ -9,7 +10,7 @@ next_place words end n = if nat_le (end.1 + n) words then end else (end.0 + 1, 0
 -- the run of object i: the last one that doesn't begin behind it
 abbrev pub run_of : Run → List Run → ℕ → Run
 run_of r [] i = r
-run_of r (q ∷ qs) i = if nat_le q.first i then run_of q qs i else r
+run_of r (q ∷ qs) i = run_of (if nat_le q.first i then q else r) qs i
 
 -- the place of an object in its run, if the page's objects before it have b words
 abbrev pub place_in : Run → ℕ → ℕ × ℕ
@@ -28,14 +29,7 @@ last_with last r = if last.target == r.target then last else r
 abbrev pub runs_with : List Run → Run → Run → List Run
 runs_with rs last r = if last.target == r.target then rs else rs ++ r ∷ []
 
--- an offset from an address
-abbrev pub address_at : ℕ × ℕ → ℕ
-address_at p = p.0 + p.1
-
--- the address of a target's head, if targets are on these pages
-abbrev pub head_of : ℕ → List ℕ → ℕ → ℕ
-head_of words targets t = get_or targets t 0 * words
-
--- a run of which the target is known by the address of its head
-abbrev pub run_on : ℕ → List ℕ → Run → Run
-run_on words targets r = record r { target = head_of words targets r.target }
+-- each run begins with an object, of which it knows at most the words before it
+abbrev pub AreBegun : List ℕ → List Run → Type 0
+AreBegun sizes [] = Unit {0}
+AreBegun sizes (r ∷ rs) = (r.before ≤ words_before sizes r.first) × (r.before < 2 ^ 32) × AreBegun sizes rs

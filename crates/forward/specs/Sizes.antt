@@ -1,5 +1,5 @@
 -- Sizes of a page's objects, by the words of those before each of them, and of all.
-use Rattle.std.specs.Prelude.{◌≡◌, ℕ, ◌-◌, ◌*◌, ◌≤◌, List, [], ◌∷◌, length, take}
+use Rattle.std.specs.Prelude.{◌≡◌, ℕ, ◌+◌, ◌-◌, ◌*◌, ◌≤◌, List, [], ◌∷◌, length, take}
 use Rattle.std.specs.List.{sum_by}
 use Rattle.model.specs.declared.limits.TheConstants.{MOST_WORDS}
 
@@ -28,3 +28,8 @@ pub record AreSizes (before : List ℕ) (total : ℕ) : Type 0 where
 -- how many words the objects before a number have
 abbrev pub words_before : List ℕ → ℕ → ℕ
 words_before sizes i = sum_by (λ n. n) (take i sizes)
+
+-- the words before each of these objects, if those before the first have b words
+abbrev pub sums_of : ℕ → List ℕ → List ℕ
+sums_of b [] = []
+sums_of b (n ∷ ns) = b ∷ sums_of (b + n) ns

@@ -70,7 +70,7 @@ impl Draft {
     }
 
     /// Returns the forwarding table, if targets, of `words` words each, are on these pages. It takes no memory.
-    pub fn settle(self, alloc: Global, words: u32, targets: &[u32]) -> Side
+    pub fn settle(self, words: u32, targets: &[u32]) -> Side
         requires words { words ≤ MOST_WORDS }
         requires low { Each targets.now (λ n. 0 < n) }
         requires high { Each targets.now (λ n. n ≤ MOST_PAGES) }
@@ -78,7 +78,7 @@ impl Draft {
         requires within { Each self.places (λ p. p.1 < words) }
         ensures { result ≡ settled words targets.now self }
     {
-        let places = self.places.on(words, targets);
-        Side::of(self.live, Places::planned(alloc, places), self.copied)
+        let places = Places::planned(words, targets, self.places);
+        Side::of(self.live, places, self.copied)
     }
 }

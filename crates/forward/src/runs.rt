@@ -1,16 +1,12 @@
 //! The places of a page's objects, by runs.
 
-ghost use Rattle.std.specs.Prelude.{◌≡◌, ◌+◌, ◌*◌, ◌<◌, ◌≤◌, ◌^◌, ◌++◌, ℕ, List, [], length, slice_get, IfOk, OnOk, Some};
-ghost use Rattle.std.specs.Prelude.{get_or, map};
-ghost use Rattle.refword.specs.Words.{IsAddress};
-ghost use Rattle.model.specs.declared.limits.TheConstants.{MOST_PAGES, MOST_WORDS};
-ghost use Rattle.model.specs.Owning.{Each};
-ghost use Rattle.model.specs.Plans.{address_in, places_from, target_count};
-ghost use Rattle.forward.specs.Runs.{address_at, head_of, last_with, next_place, run_of, run_on, runs_with};
+ghost use Rattle.std.specs.Prelude.{◌≡◌, ◌+◌, ◌<◌, ◌≤◌, ◌^◌, ◌++◌, ◌∷◌, ℕ, List, [], length, slice_get, IfOk, OnOk, Some};
+ghost use Rattle.model.specs.declared.limits.TheConstants.{MOST_WORDS};
+ghost use Rattle.model.specs.Plans.{places_from, target_count};
+ghost use Rattle.forward.specs.Runs.{last_with, next_place, runs_with};
 
 use crate::plan::Slot;
 use crate::sizes::Sizes;
-use refword::Addr;
 use std::alloc::{AllocError, Global};
 use std::marker::Model;
 
@@ -21,7 +17,7 @@ pub struct Run {
     pub(crate) first: u32,
     /// How many words the page's objects before it have.
     pub(crate) before: u32,
-    /// The number of the target, from 0; once the target is on a page, the address of the page's head.
+    /// The number of the target, from 0; once the target is on a page, the base of the objects' addresses.
     pub(crate) target: u64,
     /// The offset of the first of them in the target, in words.
     pub(crate) offset: u32,
@@ -49,63 +45,28 @@ pub(crate) fn next_place(words: u32, end: Slot, size: u32) -> Slot
 /// The places of a page's objects, in their order. A contract sees the list of them.
 #[derive(Debug, Drop)]
 pub struct Runs {
-    sizes: Sizes,
+    pub(crate) sizes: Sizes,
     /// The run that objects of earlier pages have begun.
-    first: Run,
+    pub(crate) first: Run,
     /// The others.
-    more: Vec<Run, Global>,
+    pub(crate) more: Vec<Run, Global>,
 }
 
 impl Model for Runs {
-    ghost use Rattle.std.specs.Prelude.{List, ℕ};
-    ghost use Rattle.forward.specs.Runs.{places_in};
+    ghost use Rattle.std.specs.Prelude.{List, ℕ, ◌≡◌};
+    ghost use Rattle.forward.specs.Runs.{places_in, AreBegun};
 
     ghost Value = { List (ℕ × ℕ) };
 
     ghost view = { λ r. places_in r.first r.more.items 0 0 r.sizes };
-}
 
-/// Returns the address of a target's head, by the target's number, from 0, and the pages of targets, of `words` words.
-fn head_of(words: u32, targets: &[u32], target: u64) -> u64
-    requires words { words ≤ MOST_WORDS }
-    requires pages { Each targets.now (λ n. n ≤ MOST_PAGES) }
-    ensures { result ≡ head_of words targets.now target }
-{
-    match targets.get(target as usize) {
-        None => 0,
-        Some(page) => u64::from(*page) * u64::from(words),
-    }
-}
-
-/// Returns a run of which the target is known by the address of its head.
-fn run_on(words: u32, targets: &[u32], run: Run) -> Run
-    requires words { words ≤ MOST_WORDS }
-    requires pages { Each targets.now (λ n. n ≤ MOST_PAGES) }
-    ensures { result ≡ run_on words targets.now run }
-{
-    Run {
-        first: run.first,
-        before: run.before,
-        target: head_of(words, targets, run.target),
-        offset: run.offset,
-    }
-}
-
-/// The same for each of these runs.
-fn put_on(words: u32, targets: &[u32], runs: &mut Vec<Run>)
-    requires words { words ≤ MOST_WORDS }
-    requires pages { Each targets.now (λ n. n ≤ MOST_PAGES) }
-    ensures { runs.new.items ≡ map (run_on words targets.now) runs.old.items }
-{
-    for index in 0..runs.len() {
-        runs[index] = run_on(words, targets, runs[index]);
-    }
+    ghost invariant = { λ r. (r.first.before ≡ 0) × AreBegun r.sizes r.more.items };
 }
 
 /// Adds a run to a list, if it has another target than the last one. Returns which of both is the last one then. Fails
 /// only if out of memory.
 #[inline(always)]
-fn add_run(runs: &mut Vec<Run>, last: Run, run: Run) -> Result<Run, AllocError>
+pub(crate) fn add_run(runs: &mut Vec<Run>, last: Run, run: Run) -> Result<Run, AllocError>
     ensures last { IfOk result (λ r. r ≡ last_with last run) }
     ensures runs { OnOk result (runs.new.items ≡ runs_with runs.old.items last run) }
 {
@@ -114,22 +75,6 @@ fn add_run(runs: &mut Vec<Run>, last: Run, run: Run) -> Result<Run, AllocError>
     }
     runs.push(run)?;
     Ok(run)
-}
-
-/// Returns the run of an object, by the object's number, from 0: the last one that doesn't begin behind it.
-#[inline(always)]
-pub(crate) fn run_of(first: Run, more: &[Run], number: usize) -> Run
-    ensures { result ≡ run_of first more.now number }
-{
-    let mut run = first;
-    for index in 0..more.len() {
-        let next = more[index];
-        if next.first as usize > number {
-            return run;
-        }
-        run = next;
-    }
-    run
 }
 
 impl Runs {
@@ -195,35 +140,5 @@ impl Runs {
         ensures range { result ≤ MOST_WORDS }
     {
         self.sizes.len()
-    }
-
-    /// Returns the same places in targets on these pages, of `words` words each: their targets are known by the
-    /// addresses of the pages' heads.
-    pub(crate) fn on(self, words: u32, targets: &[u32]) -> Runs
-        requires words { words ≤ MOST_WORDS }
-        requires pages { Each targets.now (λ n. n ≤ MOST_PAGES) }
-        ensures { map address_at result ≡ map (address_in words targets.now) self }
-    {
-        let mut more = self.more;
-        put_on(words, targets, &mut more);
-        Runs {
-            sizes: self.sizes,
-            first: run_on(words, targets, self.first),
-            more,
-        }
-    }
-
-    /// Returns the address of an object's place, by the object's number, from 0, if targets are known by the addresses
-    /// of their heads.
-    #[inline(always)]
-    pub(crate) fn address(&self, number: usize) -> Addr
-        requires there { number < length self.now }
-        requires address { IsAddress (get_or (map address_at self.now) number 0) }
-        ensures { result ≡ get_or (map address_at self.now) number 0 }
-    {
-        let run = run_of(self.first, &self.more, number);
-        let behind = self.sizes.before(number).saturating_sub(run.before);
-        let offset = u64::from(run.offset) + u64::from(behind);
-        Addr::new(run.target + offset).unwrap()
     }
 }

@@ -56,7 +56,7 @@ impl Side {
     {
         Side {
             live: RankedRow::empty(alloc),
-            places: Places::listed(Vec::new(alloc)),
+            places: Places::empty(alloc),
             copied: Row::empty(alloc),
             last: 0,
             number: u32::MAX,
@@ -74,9 +74,10 @@ impl Side {
         let _ = live.len();
         let copied = Row::new(alloc, live.count() as u32)?;
         let live = RankedRow::new(alloc, live)?;
+        let places = Places::listed(alloc, &places)?;
         Ok(Side {
             live,
-            places: Places::listed(places),
+            places,
             copied,
             last: 0,
             number: u32::MAX,

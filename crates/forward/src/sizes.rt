@@ -2,7 +2,7 @@
 
 ghost use Rattle.std.specs.Prelude.{◌≡◌, ◌+◌, ◌<◌, ◌≤◌, ◌^◌, ◌∷◌, ◌++◌, [], Some, length, slice_get, IfOk, OnOk};
 ghost use Rattle.model.specs.declared.limits.TheConstants.{MOST_WORDS};
-ghost use Rattle.forward.specs.Sizes.{words_before};
+ghost use Rattle.forward.specs.Sizes.{sums_of, words_before};
 
 use std::alloc::{AllocError, Global};
 use std::marker::Model;
@@ -90,5 +90,12 @@ impl Sizes {
     {
         let _ = self.len();
         self.before(number + 1) - self.before(number)
+    }
+
+    /// Returns how many words the objects before each one have.
+    pub(crate) fn into_sums(self) -> Vec<u32, Global>
+        ensures { result.items ≡ sums_of 0 self }
+    {
+        self.before
     }
 }

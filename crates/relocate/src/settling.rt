@@ -19,7 +19,7 @@ fn settle_page(heap: &mut Heap, page: u32, draft: Draft, targets: &[u32])
 {
     heap.law();
     let words = heap.memory().page_words();
-    let side = draft.settle(heap.allocator(), words, targets);
+    let side = draft.settle(words, targets);
     heap.raw_set_side(page, side);
 }
 

@@ -12,8 +12,11 @@ loop-number-preserved c =
       before = c.before-in-loop-number.ensures k;
       target = c.place.inside.target;
       offset = c.place.inside.offset;
-    })
+    }) c.before-in-loop-number.type_inv
     c.in_ok-last.last c.add_run.new.runs.items _ c.in_ok-last.ensures.last c.in_ok-last.ensures.runs refl
 
 pub returns-clause-many : goal.returns-clause-many
 returns-clause-many c = places_many _ c.loop-number.more.items 0 0 c.args.sizes
+
+pub invariant_of-result : goal.invariant_of-result
+invariant_of-result c = (refl, c.loop-number.invariant.knows)

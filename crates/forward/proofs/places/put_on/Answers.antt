@@ -1,8 +1,8 @@
 use Rattle.std.proofs.Common.{◌<◌, ◌∙◌, ap, arith, length, refl}
 use Rattle.std.proofs.lemmas.List.{get_or_read}
-use Rattle.forward.specs.Runs.{run_on}
-use Rattle.forward.proofs.Packed.{put_many, put_next}
-use Rattle.forward.proofs.runs.put_on.Goals as goal
+use Rattle.forward.specs.Bases.{run_on}
+use Rattle.forward.proofs.Bases.{put_many, put_next}
+use Rattle.forward.proofs.places.put_on.Goals as goal
 
 pub loop-index-preserved : goal.loop-index-preserved
 loop-index-preserved c =
