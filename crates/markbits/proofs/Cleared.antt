@@ -106,7 +106,7 @@ whole n bits e =
 pub none_there : (n o : ℕ) (bits spare : List Bool) → AreThere n bits spare → length bits ≤ o → o < n
     → (bits ≡ []) × (length spare ≡ n)
 none_there n o bits spare (inl is) high low = absurd (omega (arith, is.0, high, low))
-none_there n o bits spare (inr is) high low = is
+none_there n o bits spare (inr is) high low = (is.0, is.1 (omega (arith, low)))
 
 pub all_there : (n : ℕ) (bits spare : List Bool) → AreThere n bits spare → 0 < count_by (λ b. b) bits
     → (length bits ≡ n) × (spare ≡ [])

@@ -122,12 +122,19 @@ impl IndexedRows {
         settle(&mut self.busy, &self.rows, index);
     }
 
-    /// Frees the bits of a bitmap, if it exists: it is then empty, and takes no memory.
+    /// Makes a bitmap, if it exists, one of no bits. Its memory is kept until another takes its place, or `trim`.
     #[tactic(auto, using(crate::proofs::Busy::settled_placed))]
     pub fn give_up(&mut self, index: usize)
         ensures { self.new ≡ slice_set self.old index [] }
     {
         self.rows.give_up(index);
         settle(&mut self.busy, &self.rows, index);
+    }
+
+    /// Frees the memory that is kept of bitmaps that were given up, except that of the first `most`.
+    pub fn trim(&mut self, most: usize)
+        ensures { self.new ≡ self.old }
+    {
+        self.rows.trim(most);
     }
 }

@@ -25,6 +25,7 @@ pub struct Row {
     bits: WordRow,
     /// The former bits, if `bits` has none.
     spare: WordRow,
+    /// How many bits there are. If 0, the former bits may be of any number.
     len: u32,
 }
 
@@ -151,6 +152,30 @@ impl Row {
     {
         if self.bits.count() != 0 {
             mem::swap(&mut self.bits, &mut self.spare);
+        }
+    }
+
+    /// Makes the bitmap one of no bits. The memory of its bits is kept until `trim`.
+    fn give_up(&mut self)
+        ensures { self.new ≡ [] }
+    {
+        if self.bits.len() != 0 {
+            mem::swap(&mut self.bits, &mut self.spare);
+        }
+        self.len = 0;
+    }
+
+    /// Frees the memory that a bitmap of no bits keeps, unless it is one of `most` more that may keep theirs.
+    fn trim(&mut self, most: &mut usize)
+        ensures { self.new ≡ self.old }
+    {
+        if self.len != 0 || self.spare.len() == 0 {
+            return;
+        }
+        if *most == 0 {
+            self.spare = WordRow::empty(self.spare.allocator());
+        } else {
+            *most -= 1;
         }
     }
 
@@ -337,12 +362,26 @@ impl Rows {
         }
     }
 
-    /// Frees the bits of a bitmap, if it exists: it is then empty, and takes no memory.
+    /// Makes a bitmap, if it exists, one of no bits. Its memory is kept until another takes its place, or `trim`.
     pub fn give_up(&mut self, index: usize)
         ensures { self.new ≡ slice_set self.old index [] }
     {
-        let empty = Row::empty(*self.rows.allocator());
-        self.place(index, empty);
+        if index < self.rows.len() {
+            let row = &mut self.rows[index];
+            row.give_up();
+        }
+    }
+
+    /// Frees the memory that is kept of bitmaps that were given up, except that of the first `most`.
+    pub fn trim(&mut self, most: usize)
+        ensures { self.new ≡ self.old }
+    {
+        let count = self.rows.len();
+        let mut most = most;
+        for index in 0..count {
+            let row = &mut self.rows[index];
+            row.trim(&mut most);
+        }
     }
 
     /// Clears all bitmaps. One without a set bit costs one test.
