@@ -76,11 +76,13 @@ impl Heap {
     }
 
     /// Returns memory for a page that is to open. Its words may be kept from a page that released them. Fails only if
-    /// out of memory.
+    /// out of memory. It also frees some forwarding tables that a mark's end cleared, and makes space for the next ones.
     pub fn raw_blank(&mut self) -> Result<PageMemory, AllocError>
         ensures value { IfOk result (IsBlank self.old.store.words) }
         ensures stays { self.new ≡ self.old }
     {
+        self.sides.prepare();
+        self.tidy();
         let frame = self.store.blank()?;
         let rows = PageRows::new(self.allocator(), self.store.page_words())?;
         Ok(PageMemory { frame, rows })
@@ -141,11 +143,17 @@ impl Heap {
         self.store.kept_frames()
     }
 
-    /// Returns memory of released pages to the allocator, except that of `most` pages. Nothing else changes.
+    /// Returns memory of released pages to the allocator, except that of `most` pages: their words, and the bitmaps
+    /// that they had; and all forwarding tables that a mark's end cleared. Nothing else changes.
     pub fn trim(&mut self, most: usize)
         ensures { self.new ≡ self.old }
     {
         self.store.trim(most);
+        self.starts.trim(most);
+        self.live.trim(most);
+        self.mark.trim(most);
+        self.todo.trim(most);
+        self.sides.tidy(u32::MAX);
     }
 
     /// Releases the memory of a page that is being emptied.
