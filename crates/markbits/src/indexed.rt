@@ -122,12 +122,13 @@ impl IndexedRows {
         settle(&mut self.busy, &self.rows, index);
     }
 
-    /// Makes a bitmap, if it exists, one of no bits. Its memory is kept until another takes its place, or `trim`.
+    /// Makes a bitmap, if it exists, one of no bits. If `most` isn't 0, it decreases, and the memory is kept until
+    /// another bitmap takes this one's place, or until `trim`.
     #[tactic(auto, using(crate::proofs::Busy::settled_placed))]
-    pub fn give_up(&mut self, index: usize)
+    pub fn give_up(&mut self, index: usize, most: &mut usize)
         ensures { self.new ≡ slice_set self.old index [] }
     {
-        self.rows.give_up(index);
+        self.rows.give_up(index, most);
         settle(&mut self.busy, &self.rows, index);
     }
 

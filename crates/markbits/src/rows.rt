@@ -155,10 +155,16 @@ impl Row {
         }
     }
 
-    /// Makes the bitmap one of no bits. The memory of its bits is kept until `trim`.
-    fn give_up(&mut self)
+    /// Makes the bitmap one of no bits. The memory of its bits is freed, unless it is one of `most` more that may keep
+    /// theirs until `trim`.
+    fn give_up(&mut self, most: &mut usize)
         ensures { self.new ≡ [] }
     {
+        if *most == 0 {
+            *self = Row::empty(self.bits.allocator());
+            return;
+        }
+        *most -= 1;
         if self.bits.len() != 0 {
             mem::swap(&mut self.bits, &mut self.spare);
         }
@@ -362,13 +368,14 @@ impl Rows {
         }
     }
 
-    /// Makes a bitmap, if it exists, one of no bits. Its memory is kept until another takes its place, or `trim`.
-    pub fn give_up(&mut self, index: usize)
+    /// Makes a bitmap, if it exists, one of no bits. If `most` isn't 0, it decreases, and the memory is kept until
+    /// another bitmap takes this one's place, or until `trim`.
+    pub fn give_up(&mut self, index: usize, most: &mut usize)
         ensures { self.new ≡ slice_set self.old index [] }
     {
         if index < self.rows.len() {
             let row = &mut self.rows[index];
-            row.give_up();
+            row.give_up(most);
         }
     }
 
