@@ -76,13 +76,11 @@ impl Heap {
     }
 
     /// Returns memory for a page that is to open. Its words may be kept from a page that released them. Fails only if
-    /// out of memory. It also frees some forwarding tables that a mark's end cleared, and makes space for the next ones.
+    /// out of memory.
     pub fn raw_blank(&mut self) -> Result<PageMemory, AllocError>
         ensures value { IfOk result (IsBlank self.old.store.words) }
         ensures stays { self.new ≡ self.old }
     {
-        self.sides.prepare();
-        self.tidy();
         let frame = self.store.blank()?;
         let rows = PageRows::new(self.allocator(), self.store.page_words())?;
         Ok(PageMemory { frame, rows })
@@ -105,6 +103,15 @@ impl Heap {
         open_row(&mut self.mark, buffer, rows.mark);
         open_indexed_row(&mut self.todo, buffer, rows.todo);
         Ok(buffer)
+    }
+
+    /// Frees all forwarding tables that a mark's end cleared, and makes space for the next end of a mark to leave its
+    /// tables in, if memory is there for it. Nothing else changes.
+    pub fn raw_tidy(&mut self)
+        ensures { self.new ≡ self.old }
+    {
+        self.sides.tidy(u32::MAX);
+        self.sides.prepare();
     }
 
     /// Replaces the forwarding table of a page, if the page has a record.
