@@ -132,6 +132,15 @@ impl IndexedRows {
         settle(&mut self.busy, &self.rows, index);
     }
 
+    /// Returns a bitmap of `words` clear bits: of memory that was kept when a bitmap was given up, or new. Fails only
+    /// if out of memory.
+    pub fn blank(&mut self, words: u32) -> Result<Row, AllocError>
+        ensures value { IfOk result (λ r. r ≡ replicate words false) }
+        ensures stays { self.new ≡ self.old }
+    {
+        self.rows.blank(words)
+    }
+
     /// Frees the memory that is kept of bitmaps that were given up, except that of the first `most`.
     pub fn trim(&mut self, most: usize)
         ensures { self.new ≡ self.old }

@@ -45,6 +45,28 @@ impl PageRows {
     }
 }
 
+/// Returns clear bitmaps of `words` bits, of memory that these tables keep, or new. Fails only if out of memory.
+pub(crate) fn blank_rows(
+    starts: &mut Rows,
+    live: &mut Rows,
+    mark: &mut Rows,
+    todo: &mut IndexedRows,
+    words: u32,
+) -> Result<PageRows, AllocError>
+    ensures rows { IfOk result (AreClear words) }
+    ensures starts { starts.new ≡ starts.old }
+    ensures live { live.new ≡ live.old }
+    ensures mark { mark.new ≡ mark.old }
+    ensures todo { todo.new ≡ todo.old }
+{
+    Ok(PageRows {
+        starts: starts.blank(words)?,
+        live: live.blank(words)?,
+        mark: mark.blank(words)?,
+        todo: todo.blank(words)?,
+    })
+}
+
 /// All memory that a page needs to open.
 #[derive(Drop)]
 pub struct PageMemory {

@@ -17,7 +17,7 @@ ghost use Rattle.heap.specs.Opening.{IsBlank};
 ghost use Rattle.heap.specs.Relocating.{OpensTarget, start_protection};
 
 use crate::heap::Heap;
-use crate::heap::opening::{PageMemory, PageRows, open_indexed_row, open_row};
+use crate::heap::opening::{PageMemory, PageRows, blank_rows, open_indexed_row, open_row};
 use forward::Side;
 use layout::layout_of;
 use model::{Buffer, Phase, Room};
@@ -82,7 +82,13 @@ impl Heap {
         ensures stays { self.new ≡ self.old }
     {
         let frame = self.store.blank()?;
-        let rows = PageRows::new(self.allocator(), self.store.page_words())?;
+        let rows = blank_rows(
+            &mut self.starts,
+            &mut self.live,
+            &mut self.mark,
+            &mut self.todo,
+            self.store.page_words(),
+        )?;
         Ok(PageMemory { frame, rows })
     }
 
