@@ -27,7 +27,7 @@ pub struct Sides {
     sides: Vec<Side, Global>,
     /// How many entries of all tables are uncopied.
     left: usize,
-    /// The tables before the last `clear_all`, which are freed by and by; none before `prepare`.
+    /// The tables that the last `clear_all` cleared, until `tidy` frees their entries; none before `prepare`.
     cleared: Vec<Side, Global>,
     /// The tables of `cleared` before this index are freed.
     freed: usize,

@@ -264,8 +264,8 @@ impl Row {
     }
 }
 
-/// A bitmap for each page that has a record, by the record's index. The bitmap of a page that isn't used is empty,
-/// and takes no memory.
+/// A bitmap for each page that has a record, by the record's index. The bitmap of a page that isn't used is empty. It
+/// takes no memory, unless it was given up and keeps its own for `blank`.
 #[derive(Debug, Drop)]
 pub struct Rows {
     rows: Vec<Row>,
