@@ -1,9 +1,9 @@
 -- How many entries of all forwarding tables are uncopied.
-use Rattle.std.proofs.Common.{◌≡◌, ℕ, zero, suc, ◌+◌, ◌-◌, ◌*◌, ◌<◌, ◌≤◌, ◌^◌, List, [], ◌∷◌, length, take}
+use Rattle.std.proofs.Common.{◌≡◌, ℕ, zero, suc, ◌+◌, ◌-◌, ◌*◌, ◌<◌, ◌≤◌, ◌^◌, List, [], ◌∷◌, length}
 use Rattle.std.proofs.Common.{get_or, set, replicate, Some, refl, sym, ◌∙◌, ap, subst, arith, length-set}
 use Rattle.std.proofs.Common.{Bool, true, false, not, ◌==◌, ◌≢◌, cond, map, Option, None}
 use Rattle.std.specs.List.{slice_get, list_any}
-use Rattle.std.proofs.lemmas.List.{length-replicate, take_all, get_or_read, set-get_or}
+use Rattle.std.proofs.lemmas.List.{length-replicate, get_or_read, set-get_or}
 use Rattle.std.proofs.lemmas.List.Sums.{sum_by-set, sum_by-cons}
 use Rattle.model.specs.declared.limits.TheConstants.{MOST_WORDS}
 use Rattle.model.specs.declared.records.Forwarding.{Forwarding}
@@ -106,12 +106,10 @@ module _ (sides : List (List Forwarding)) (left i : ℕ) (old : List Forwarding)
       by_entry None z = ap (set sides i) z ∙ same_sides
       by_entry (Some f) z = by_copied f f.copied z
 
--- all of them are let go
-pub emptied : (items old : List (List Forwarding)) (left i : ℕ) → AreCounted old left
-    → take i items ≡ replicate i [] → length items ≡ length old → i ≡ length items → AreCounted items 0
-emptied items old left i k so_far same whole =
-    let all : items ≡ replicate i [] = sym (take_all i items (omega (arith, whole))) ∙ so_far in
-    subst (λ xs. AreCounted xs 0) (sym all) (none_counted i (omega (arith, whole, same, k.short)))
+-- all of them are cleared
+pub all_cleared : (old items : List (List Forwarding)) (left : ℕ) → AreCounted old left
+    → items ≡ replicate (length old) [] → AreCounted items 0
+all_cleared old items left k is = subst (λ xs. AreCounted xs 0) (sym is) (none_counted (length old) k.short)
 
 -- where no entry is left, each side array is copied
 pub all_copied : (sides : List (List Forwarding)) (n : ℕ) → uncopied_count sides ≡ 0

@@ -27,6 +27,10 @@ pub struct Sides {
     sides: Vec<Side, Global>,
     /// How many entries of all tables are uncopied.
     left: usize,
+    /// The tables that the last `clear_all` cleared, until `tidy` frees their entries; none before `prepare`.
+    cleared: Vec<Side, Global>,
+    /// The tables of `cleared` before this index are freed.
+    freed: usize,
 }
 
 impl Model for Sides {
@@ -41,16 +45,63 @@ impl Model for Sides {
     ghost invariant = { λ s. AreCounted s.sides.items s.left };
 }
 
+/// Returns `count` empty forwarding tables. Fails only if out of memory.
+fn empty_sides(alloc: Global, count: usize) -> Result<Vec<Side, Global>, AllocError>
+    ensures { IfOk result (λ v. v.items ≡ replicate count []) }
+{
+    let mut sides = Vec::with_capacity(alloc, count)?;
+    for _side in 0..count {
+        sides.push(Side::empty(alloc))?;
+    }
+    Ok(sides)
+}
+
+/// Clears forwarding tables and frees their entries. An empty table costs one test.
+fn clear(sides: &mut Vec<Side, Global>)
+    ensures { sides.new.items ≡ replicate (length sides.old.items) [] }
+{
+    let alloc = *sides.allocator();
+    for index in 0..sides.len() {
+        if sides[index].len() != 0 {
+            sides[index] = Side::empty(alloc);
+        }
+    }
+}
+
+/// Clears forwarding tables by other ones, if there are as many: they are swapped.
+fn exchange(sides: &mut Vec<Side, Global>, cleared: &mut Vec<Side, Global>)
+    ensures { sides.new.items ≡ replicate (length sides.old.items) [] }
+{
+    if cleared.len() == sides.len() {
+        clear(cleared);
+        std::mem::swap(sides, cleared);
+    } else {
+        clear(sides);
+    }
+}
+
+/// Frees the entries of the next tables, at most of `most`.
+fn free(sides: &mut Vec<Side, Global>, next: &mut usize, most: u32) {
+    for _side in 0..most {
+        if *next >= sides.len() {
+            return;
+        }
+        sides[*next] = Side::empty(*sides.allocator());
+        *next += 1;
+    }
+}
+
 impl Sides {
     /// Returns `count` empty forwarding tables: in a heap at most 1,048,575. Fails only if out of memory.
     pub fn new(alloc: Global, count: u32) -> Result<Sides, AllocError>
         ensures { IfOk result (λ s. s ≡ replicate count []) }
     {
-        let mut sides = Vec::with_capacity(alloc, count as usize)?;
-        for _side in 0..count {
-            sides.push(Side::empty(alloc))?;
-        }
-        Ok(Sides { sides, left: 0 })
+        Ok(Sides {
+            sides: empty_sides(alloc, count as usize)?,
+            left: 0,
+            cleared: Vec::new(alloc),
+            freed: 0,
+        })
     }
 
     /// Returns the forwarding table of an index from 0, if it exists.
@@ -219,16 +270,31 @@ impl Sides {
         }
     }
 
-    /// Clears all forwarding tables and frees their entries. An empty table costs one test.
+    /// Clears all forwarding tables. Their entries are freed later, by `tidy`, if `prepare` has made space for that.
     pub fn clear_all(&mut self)
         ensures { self.new ≡ replicate (length self.old) [] }
     {
-        let alloc = *self.sides.allocator();
-        for index in 0..self.sides.len() {
-            if self.sides[index].len() != 0 {
-                self.sides[index] = Side::empty(alloc);
-            }
-        }
+        exchange(&mut self.sides, &mut self.cleared);
         self.left = 0;
+        self.freed = 0;
+    }
+
+    /// Makes space for tables that are cleared, if memory is there for it.
+    pub fn prepare(&mut self)
+        ensures { self.new ≡ self.old }
+    {
+        if self.cleared.len() == self.sides.len() {
+            return;
+        }
+        if let Ok(cleared) = empty_sides(*self.sides.allocator(), self.sides.len()) {
+            self.cleared = cleared;
+        }
+    }
+
+    /// Frees the entries of up to `most` tables that were cleared.
+    pub fn tidy(&mut self, most: u32)
+        ensures { self.new ≡ self.old }
+    {
+        free(&mut self.cleared, &mut self.freed, most);
     }
 }

@@ -122,12 +122,29 @@ impl IndexedRows {
         settle(&mut self.busy, &self.rows, index);
     }
 
-    /// Frees the bits of a bitmap, if it exists: it is then empty, and takes no memory.
+    /// Makes a bitmap, if it exists, one of no bits. If `most` isn't 0, it decreases, and the memory is kept until
+    /// another bitmap takes this one's place, or until `trim`.
     #[tactic(auto, using(crate::proofs::Busy::settled_placed))]
-    pub fn give_up(&mut self, index: usize)
+    pub fn give_up(&mut self, index: usize, most: &mut usize)
         ensures { self.new ≡ slice_set self.old index [] }
     {
-        self.rows.give_up(index);
+        self.rows.give_up(index, most);
         settle(&mut self.busy, &self.rows, index);
+    }
+
+    /// Returns a bitmap of `words` clear bits: of memory that was kept when a bitmap was given up, or new. Fails only
+    /// if out of memory.
+    pub fn blank(&mut self, words: u32) -> Result<Row, AllocError>
+        ensures value { IfOk result (λ r. r ≡ replicate words false) }
+        ensures stays { self.new ≡ self.old }
+    {
+        self.rows.blank(words)
+    }
+
+    /// Frees the memory that is kept of bitmaps that were given up, except that of the first `most`.
+    pub fn trim(&mut self, most: usize)
+        ensures { self.new ≡ self.old }
+    {
+        self.rows.trim(most);
     }
 }

@@ -1,7 +1,7 @@
 //! Bitmaps with one bit for each word of a page.
 
 ghost use Rattle.std.specs.Prelude.{◌≡◌, ◌-◌, ◌*◌, ◌/◌, ◌<◌, ◌≤◌, ◌^◌, length, replicate, take, slice_get};
-ghost use Rattle.std.specs.Prelude.{slice_index_or, slice_set, Some, map, true, false, [], IfOk, count_by};
+ghost use Rattle.std.specs.Prelude.{slice_index_or, slice_set, Some, map, true, false, [], IfOk, IfSome, count_by};
 ghost use Rattle.std.specs.Option.{option_copied};
 ghost use Rattle.model.specs.States.{change_at};
 ghost use Rattle.model.specs.declared.limits.TheConstants.{MOST_PAGES};
@@ -25,6 +25,7 @@ pub struct Row {
     bits: WordRow,
     /// The former bits, if `bits` has none.
     spare: WordRow,
+    /// How many bits there are. If 0, the former bits may be of any number.
     len: u32,
 }
 
@@ -154,6 +155,60 @@ impl Row {
         }
     }
 
+    /// Makes the bitmap one of no bits. The memory of its bits is freed, unless it is one of `most` more that may keep
+    /// theirs until `trim`.
+    fn give_up(&mut self, most: &mut usize)
+        ensures { self.new ≡ [] }
+    {
+        if *most == 0 {
+            *self = Row::empty(self.bits.allocator());
+            return;
+        }
+        *most -= 1;
+        if self.bits.len() != 0 {
+            mem::swap(&mut self.bits, &mut self.spare);
+        }
+        self.len = 0;
+    }
+
+    /// Returns whether a bitmap of no bits keeps memory.
+    fn keeps(&self) -> bool {
+        self.len == 0 && self.spare.len() != 0
+    }
+
+    /// Returns a bitmap of `words` clear bits, of the memory that this bitmap of no bits keeps; `None` if it keeps none
+    /// for as many bits.
+    fn reuse(&mut self, words: u32) -> Option<Row>
+        ensures value { IfSome result (λ r. r ≡ replicate words false) }
+        ensures stays { self.new ≡ self.old }
+    {
+        if self.len != 0 || self.spare.len() != words as usize {
+            return None;
+        }
+        let alloc = self.spare.allocator();
+        let mut spare = WordRow::empty(alloc);
+        mem::swap(&mut spare, &mut self.spare);
+        Some(Row {
+            bits: WordRow::empty(alloc),
+            spare,
+            len: words,
+        })
+    }
+
+    /// Frees the memory that a bitmap of no bits keeps, unless it is one of `most` more that may keep theirs.
+    fn trim(&mut self, most: &mut usize)
+        ensures { self.new ≡ self.old }
+    {
+        if self.len != 0 || self.spare.len() == 0 {
+            return;
+        }
+        if *most == 0 {
+            self.spare = WordRow::empty(self.spare.allocator());
+        } else {
+            *most -= 1;
+        }
+    }
+
     /// Returns the first place from an offset on whose bit is set, or `None`; there is none from the bitmap's end on.
     #[inline(always)]
     #[tactic(auto, using(crate::proofs::Cleared::next_padded))]
@@ -209,11 +264,13 @@ impl Row {
     }
 }
 
-/// A bitmap for each page that has a record, by the record's index. The bitmap of a page that isn't used is empty,
-/// and takes no memory.
+/// A bitmap for each page that has a record, by the record's index. The bitmap of a page that isn't used is empty. It
+/// takes no memory, unless it was given up and keeps its own for `blank`.
 #[derive(Debug, Drop)]
 pub struct Rows {
     rows: Vec<Row>,
+    /// No bitmap before this index keeps memory after it was given up.
+    first_kept: usize,
 }
 
 impl Model for Rows {
@@ -222,6 +279,16 @@ impl Model for Rows {
     ghost Value = { List (List Bool) };
 
     ghost view = { λ r. r.rows.items };
+}
+
+/// Returns the index of the first bitmap from an index on that has no bits and keeps memory; after all if there is none.
+fn next_kept(rows: &[Row], from: usize) -> usize {
+    for index in from..rows.len() {
+        if rows[index].keeps() {
+            return index;
+        }
+    }
+    rows.len()
 }
 
 impl Rows {
@@ -233,7 +300,10 @@ impl Rows {
         for _row in 0..count {
             rows.push(Row::empty(alloc))?;
         }
-        Ok(Rows { rows })
+        Ok(Rows {
+            rows,
+            first_kept: 0,
+        })
     }
 
     /// Returns the bitmap of an index from 0, if it exists.
@@ -337,12 +407,45 @@ impl Rows {
         }
     }
 
-    /// Frees the bits of a bitmap, if it exists: it is then empty, and takes no memory.
-    pub fn give_up(&mut self, index: usize)
+    /// Makes a bitmap, if it exists, one of no bits. If `most` isn't 0, it decreases, and the memory is kept until
+    /// another bitmap takes this one's place, or until `trim`.
+    pub fn give_up(&mut self, index: usize, most: &mut usize)
         ensures { self.new ≡ slice_set self.old index [] }
     {
-        let empty = Row::empty(*self.rows.allocator());
-        self.place(index, empty);
+        if index < self.rows.len() {
+            let row = &mut self.rows[index];
+            row.give_up(most);
+            self.first_kept = self.first_kept.min(index);
+        }
+    }
+
+    /// Returns a bitmap of `words` clear bits: of memory that was kept when a bitmap was given up, or new. Fails only
+    /// if out of memory.
+    pub fn blank(&mut self, words: u32) -> Result<Row, AllocError>
+        ensures value { IfOk result (λ r. r ≡ replicate words false) }
+        ensures stays { self.new ≡ self.old }
+    {
+        let index = next_kept(&self.rows, self.first_kept);
+        self.first_kept = index;
+        if index < self.rows.len() {
+            let row = &mut self.rows[index];
+            if let Some(row) = row.reuse(words) {
+                return Ok(row);
+            }
+        }
+        Row::new(*self.rows.allocator(), words)
+    }
+
+    /// Frees the memory that is kept of bitmaps that were given up, except that of the first `most`.
+    pub fn trim(&mut self, most: usize)
+        ensures { self.new ≡ self.old }
+    {
+        let count = self.rows.len();
+        let mut most = most;
+        for index in 0..count {
+            let row = &mut self.rows[index];
+            row.trim(&mut most);
+        }
     }
 
     /// Clears all bitmaps. One without a set bit costs one test.

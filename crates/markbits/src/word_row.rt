@@ -83,6 +83,11 @@ impl WordRow {
         }
     }
 
+    /// Returns the allocator of its words.
+    pub fn allocator(&self) -> Global {
+        *self.words.allocator()
+    }
+
     /// Returns a copy of the bitmap. Fails only if out of memory.
     pub fn copy(&self, alloc: Global) -> Result<WordRow, AllocError>
         ensures { IfOk result (λ r. r ≡ self.now) }

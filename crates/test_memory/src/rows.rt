@@ -53,8 +53,8 @@ fn rows_that_are_empty_first(rt: HostRuntime) -> Result<(), Fail> {
     rows.place(2, Row::new(rt.alloc(), 16)?);
     rows.put(1, 15, true);
     has_counts(&rt, &rows, &[0, 1]);
-    rows.give_up(1);
-    rows.give_up(2);
+    rows.give_up(1, &mut 0);
+    rows.give_up(2, &mut 0);
     rows.put(1, 15, true);
     has_counts(&rt, &rows, &[0, 0]);
     Ok(())
@@ -68,7 +68,7 @@ fn rows_of_clear_bits(rt: HostRuntime) -> Result<(), Fail> {
         rows.put(index, offset, true);
     }
     has_counts(&rt, &rows, &[1, 2, 0]);
-    rows.give_up(1);
+    rows.give_up(1, &mut 0);
     has_counts(&rt, &rows, &[1, 0, 0]);
     Ok(())
 }
@@ -97,7 +97,7 @@ fn changes_rows(rt: &impl Abort, rows: &mut IndexedRows) {
     }
     has_indexed_counts(rt, rows, &[1, 0, 1]);
     finds_busy_rows(rt, rows, &[Some(0), Some(2), Some(2), None]);
-    rows.give_up(2);
+    rows.give_up(2, &mut 1);
     finds_busy_rows(rt, rows, &[Some(0), None, None, None]);
     rows.put(0, 0, false);
     assert!(rt; rows.is_empty());
@@ -176,8 +176,9 @@ fn loses_rows(rt: &impl Abort, rows: &mut IndexedRows) {
     rows.put(8_192, 0, true);
     same(rt, rows.next_busy(8_192), None);
     same(rt, rows.next_busy(usize::MAX), None);
+    let mut most = 3;
     for index in [0, 1, 63, 64, 4_096] {
-        rows.give_up(index);
+        rows.give_up(index, &mut most);
     }
     same(rt, rows.next_busy(0), Some(127));
     same(rt, rows.next_busy(4_096), Some(4_159));

@@ -55,8 +55,20 @@ impl Heap {
     ///
     /// Fails with `HasBuffer` if the thread has one; `NoFrames` if no page has space and no frame is free; `NoPages`
     /// if no page number is unused; `Memory` if out of memory for a fresh page.
-    #[tactic(auto, unfolding(model::specs::Buffers::take_outcome, model::specs::Buffers::lend_buffer), using(model::proofs::Passing::take_low, model::proofs::Passing::take_high, crate::proofs::TakenBuffers::thread_there))]
+    ///
+    /// It also frees some forwarding tables that a mark's end cleared.
     pub fn take_row(&mut self, thread: u32, words: u32) -> Result<Buffer, Refusal>
+        requires { Passes self.old thread (steps.Take words) }
+        ensures does { DoesOrLacks self.old (said lent result) self.new (take_outcome self.old thread words) }
+        ensures buffer { IfOk result (λ buffer. buffer_of_thread self.new thread ≡ Some buffer) }
+    {
+        self.tidy();
+        self.take_tidied(thread, words)
+    }
+
+    /// Does what `take_row` does, but frees nothing.
+    #[tactic(auto, unfolding(model::specs::Buffers::take_outcome, model::specs::Buffers::lend_buffer), using(model::proofs::Passing::take_low, model::proofs::Passing::take_high, crate::proofs::TakenBuffers::thread_there))]
+    fn take_tidied(&mut self, thread: u32, words: u32) -> Result<Buffer, Refusal>
         requires { Passes self.old thread (steps.Take words) }
         ensures does { DoesOrLacks self.old (said lent result) self.new (take_outcome self.old thread words) }
         ensures buffer { IfOk result (λ buffer. buffer_of_thread self.new thread ≡ Some buffer) }

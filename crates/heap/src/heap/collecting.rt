@@ -108,13 +108,14 @@ fn is_protected_at(store: &Store, index: usize) -> bool
     }
 }
 
-/// Frees the bitmaps of protected pages.
+/// Makes bitmaps of protected pages ones of no bits. As many as memory of frames is kept keep theirs.
 fn give_up_rows(rows: &mut Rows, store: &Store)
     ensures { rows.new ≡ rows_after_mark store.now.pages rows.old }
 {
+    let mut most = store.kept_frames();
     for index in 0..store.pages().len() {
         if is_protected_at(store, index) {
-            rows.give_up(index);
+            rows.give_up(index, &mut most);
         }
     }
 }
@@ -123,9 +124,10 @@ fn give_up_rows(rows: &mut Rows, store: &Store)
 fn give_up_indexed_rows(rows: &mut IndexedRows, store: &Store)
     ensures { rows.new ≡ rows_after_mark store.now.pages rows.old }
 {
+    let mut most = store.kept_frames();
     for index in 0..store.pages().len() {
         if is_protected_at(store, index) {
-            rows.give_up(index);
+            rows.give_up(index, &mut most);
         }
     }
 }

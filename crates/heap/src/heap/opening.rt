@@ -3,10 +3,14 @@
 ghost use Rattle.std.specs.Prelude.{◌≡◌, ◌-◌, ◌==◌, false, replicate, slice_set, if◌then◌else◌, IfOk};
 ghost use Rattle.heap.specs.Opening.{AreClear, IsBlank};
 
+use crate::heap::Heap;
 use markbits::{IndexedRows, Row, Rows};
 use model::Buffer;
 use page::Frame;
 use std::alloc::{AllocError, Global};
+
+/// How many forwarding tables, of those that a mark's end cleared, are freed by one call of `tidy`.
+const TIDIED: u32 = 8;
 
 /// The bitmaps of one page. When a page opens, each of them has a clear bit for each of its words.
 #[derive(Drop)]
@@ -41,11 +45,42 @@ impl PageRows {
     }
 }
 
+/// Returns clear bitmaps of `words` bits, of memory that these tables keep, or new. Fails only if out of memory.
+pub(crate) fn blank_rows(
+    starts: &mut Rows,
+    live: &mut Rows,
+    mark: &mut Rows,
+    todo: &mut IndexedRows,
+    words: u32,
+) -> Result<PageRows, AllocError>
+    ensures rows { IfOk result (AreClear words) }
+    ensures starts { starts.new ≡ starts.old }
+    ensures live { live.new ≡ live.old }
+    ensures mark { mark.new ≡ mark.old }
+    ensures todo { todo.new ≡ todo.old }
+{
+    Ok(PageRows {
+        starts: starts.blank(words)?,
+        live: live.blank(words)?,
+        mark: mark.blank(words)?,
+        todo: todo.blank(words)?,
+    })
+}
+
 /// All memory that a page needs to open.
 #[derive(Drop)]
 pub struct PageMemory {
     pub(crate) frame: Frame,
     pub(crate) rows: PageRows,
+}
+
+impl Heap {
+    /// Frees some of the forwarding tables that a mark's end cleared. Nothing else changes.
+    pub(crate) fn tidy(&mut self)
+        ensures { self.new ≡ self.old }
+    {
+        self.sides.tidy(TIDIED);
+    }
 }
 
 /// Gives a page its bitmap, if a buffer is the first on the page.

@@ -17,7 +17,7 @@ ghost use Rattle.heap.specs.Opening.{IsBlank};
 ghost use Rattle.heap.specs.Relocating.{OpensTarget, start_protection};
 
 use crate::heap::Heap;
-use crate::heap::opening::{PageMemory, PageRows, open_indexed_row, open_row};
+use crate::heap::opening::{PageMemory, PageRows, blank_rows, open_indexed_row, open_row};
 use forward::Side;
 use layout::layout_of;
 use model::{Buffer, Phase, Room};
@@ -82,7 +82,13 @@ impl Heap {
         ensures stays { self.new ≡ self.old }
     {
         let frame = self.store.blank()?;
-        let rows = PageRows::new(self.allocator(), self.store.page_words())?;
+        let rows = blank_rows(
+            &mut self.starts,
+            &mut self.live,
+            &mut self.mark,
+            &mut self.todo,
+            self.store.page_words(),
+        )?;
         Ok(PageMemory { frame, rows })
     }
 
@@ -103,6 +109,15 @@ impl Heap {
         open_row(&mut self.mark, buffer, rows.mark);
         open_indexed_row(&mut self.todo, buffer, rows.todo);
         Ok(buffer)
+    }
+
+    /// Frees all forwarding tables that a mark's end cleared, and makes space for the next end of a mark to leave its
+    /// tables in, if memory is there for it. Nothing else changes.
+    pub fn raw_tidy(&mut self)
+        ensures { self.new ≡ self.old }
+    {
+        self.sides.tidy(u32::MAX);
+        self.sides.prepare();
     }
 
     /// Replaces the forwarding table of a page, if the page has a record.
@@ -141,11 +156,17 @@ impl Heap {
         self.store.kept_frames()
     }
 
-    /// Returns memory of released pages to the allocator, except that of `most` pages. Nothing else changes.
+    /// Returns memory of released pages to the allocator, except that of `most` pages: their words, and the bitmaps
+    /// that they had; and all forwarding tables that a mark's end cleared. Nothing else changes.
     pub fn trim(&mut self, most: usize)
         ensures { self.new ≡ self.old }
     {
         self.store.trim(most);
+        self.starts.trim(most);
+        self.live.trim(most);
+        self.mark.trim(most);
+        self.todo.trim(most);
+        self.sides.tidy(u32::MAX);
     }
 
     /// Releases the memory of a page that is being emptied.

@@ -4,5 +4,4 @@ use Rattle.forward.proofs.sides.Sides.new.Goals as goal
 
 pub invariant_of-result : goal.invariant_of-result
 invariant_of-result c =
-    rw c.loop-side.invariant
-    (none_counted c.loop-side._side (omega (arith, c.ranges.count.fits, c.loop-side.auto._side-end)))
+    rw c.in_ok-empty_sides.ensures (none_counted c.args.count (omega (arith, c.ranges.count.fits)))

@@ -11,7 +11,7 @@ use Rattle.heap.specs.Opening.{AreClear}
 use Rattle.heap.specs.Views.{heap_of}
 use Rattle.heap.proofs.Keeping.{opened_keeps, thread_keeps}
 use Rattle.heap.proofs.TakenBuffers.{refused_same, taken_rows, took, thread_there, threads_lent}
-use Rattle.heap.proofs.heap.Heap.take_row.Goals as goal
+use Rattle.heap.proofs.heap.Heap.take_tidied.Goals as goal
 
 pub invariant_of-self : goal.invariant_of-self
 invariant_of-self c = subst (λ (s : StoreState). IsHeap (record (heap_of c.self.inside) { store = s }))
