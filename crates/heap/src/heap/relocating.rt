@@ -142,11 +142,12 @@ impl Heap {
         self.phase = Phase::ProtectCrossing;
     }
 
-    /// Allocates memory for one more page and keeps it, cleared, for a page that opens later. Fails only if out of
-    /// memory. Nothing else changes.
+    /// Allocates memory for one more page and keeps it, cleared, for a page that opens later. It also frees some
+    /// forwarding tables that a mark's end cleared. Fails only if out of memory. Nothing else changes.
     pub fn prepare_frame(&mut self) -> Result<(), AllocError>
         ensures { self.new ≡ self.old }
     {
+        self.tidy();
         self.store.prepare_frame()
     }
 
