@@ -5,6 +5,7 @@ pub mod Noted
 pub mod Copies
 pub mod Plans
 pub mod Summed
+pub mod Offsets
 pub mod Packed
 pub mod Bases
 pub mod Drafted

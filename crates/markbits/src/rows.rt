@@ -78,6 +78,14 @@ impl Row {
         })
     }
 
+    /// Returns whether the other bitmap has the same bits, and as many. Bitmaps that were cleared in different ways may
+    /// count as different.
+    pub fn is_same(&self, other: &Row) -> bool
+        ensures { result ≡ true → self.now ≡ other.now }
+    {
+        self.len == other.len && self.bits.is_same(&other.bits)
+    }
+
     /// Returns how many bits are set.
     #[tactic(auto, using(crate::proofs::Cleared::count_padded))]
     pub fn count(&self) -> usize

@@ -100,6 +100,13 @@ impl WordRow {
         })
     }
 
+    /// Returns whether the other bitmap has the same bits, and as many.
+    pub fn is_same(&self, other: &WordRow) -> bool
+        ensures { result ≡ true → self.now ≡ other.now }
+    {
+        self.len == other.len && self.words.as_slice() == other.words.as_slice()
+    }
+
     /// Returns how many bits are set.
     pub fn count(&self) -> usize
         ensures value { result ≡ count_by (λ b. b) self.now }

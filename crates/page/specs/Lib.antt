@@ -9,3 +9,4 @@ pub mod Relocating
 pub mod Usable
 pub mod Sizes
 pub mod Whole
+pub mod Kept

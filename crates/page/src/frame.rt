@@ -1,10 +1,16 @@
 //! The memory of a page.
 
 ghost use Rattle.std.specs.Prelude.{◌≡◌, ◌+◌, ◌≤◌, ◌<◌, ◌^◌, length, slice_get, slice_set, slice_range, replicate};
-ghost use Rattle.std.specs.Prelude.{take, drop, [], IfOk, nat_lt};
+ghost use Rattle.std.specs.Prelude.{take, drop, [], IfOk, IfSome, nat_lt};
+ghost use Rattle.model.specs.declared.limits.TheConstants.{MOST_WORDS};
+ghost use Rattle.page.specs.Kept.{sizes_in};
 ghost use Rattle.std.specs.Borrow.{sem};
 ghost use Rattle.page.specs.Lending.{LendsRun};
 
+use crate::kept::KeptSizes;
+use forward::Sizes;
+use layout::Layouts;
+use markbits::Row;
 use std::alloc::{AllocError, Global};
 use std::marker::Model;
 use std_alloc::vec::run_mut;
@@ -15,16 +21,22 @@ pub struct Frame {
     words: Vec<u64, Global>,
     /// Whether a word may have been written since all were 0.
     written: bool,
+    /// Whether no word was written since sizes of objects were kept.
+    fresh: bool,
+    /// The sizes that were kept last, if any.
+    kept: Vec<KeptSizes, Global>,
 }
 
 impl Model for Frame {
-    ghost use Rattle.std.specs.Prelude.{◌≡◌, List, ℕ, false, length, replicate};
+    ghost use Rattle.std.specs.Prelude.{◌≡◌, List, ℕ, false, true, length, replicate};
+    ghost use Rattle.page.specs.Kept.{AreKept};
 
     ghost Value = { List ℕ };
 
     ghost view = { λ f. f.words.items };
 
-    ghost invariant = { λ f. f.written ≡ false → f.words.items ≡ replicate (length f.words.items) 0 };
+    ghost invariant = { λ f. (f.written ≡ false → f.words.items ≡ replicate (length f.words.items) 0)
+        × (f.fresh ≡ true → AreKept f.words.items f.kept.items) };
 }
 
 impl Frame {
@@ -35,6 +47,8 @@ impl Frame {
         Ok(Frame {
             words: vec![in alloc; 0; words as usize]?,
             written: false,
+            fresh: false,
+            kept: Vec::new(alloc),
         })
     }
 
@@ -45,6 +59,8 @@ impl Frame {
         Frame {
             words: Vec::new(alloc),
             written: false,
+            fresh: false,
+            kept: Vec::new(alloc),
         }
     }
 
@@ -61,6 +77,7 @@ impl Frame {
     {
         if offset < self.words.len() {
             self.written = true;
+            self.fresh = false;
             self.words[offset] = value;
         }
     }
@@ -75,14 +92,44 @@ impl Frame {
             return false;
         }
         self.written = true;
+        self.fresh = false;
         self.words[offset] = value;
         true
     }
 
-    /// Sets all words to 0. It costs nothing if no word was written since they were.
+    /// Keeps the sizes of the objects at the set bits of a bitmap, which has at most as many bits as the largest page
+    /// has words, until a word is written. Fails only if out of memory. The words stay.
+    pub fn keep_sizes(&mut self, layouts: &Layouts, live: &Row) -> Result<(), AllocError>
+        requires { length live.now ≤ MOST_WORDS }
+        ensures { self.new ≡ self.old }
+    {
+        let alloc = *self.words.allocator();
+        let sizes = KeptSizes::new(alloc, layouts, &self.words, live)?;
+        self.fresh = false;
+        self.kept.clear();
+        self.kept.push(sizes)?;
+        self.fresh = true;
+        Ok(())
+    }
+
+    /// Returns the sizes of the objects at the set bits of a bitmap, by these layouts, if these were kept and no word
+    /// was written since.
+    pub fn sizes(&self, layouts: &Layouts, live: &Row) -> Option<&Sizes>
+        ensures { IfSome result (λ s. s.now ≡ sizes_in layouts.now self.now live.now) }
+    {
+        if !self.fresh {
+            return None;
+        }
+        let kept = self.kept.first()?;
+        kept.sizes_for(layouts, live)
+    }
+
+    /// Sets all words to 0, and frees sizes that were kept. It costs nothing if no word was written since they were.
     pub fn clear(&mut self)
         ensures { self.new ≡ replicate (length self.old) 0 }
     {
+        self.fresh = false;
+        self.kept.clear();
         if self.written {
             self.words.fill(0);
             self.written = false;
@@ -102,6 +149,7 @@ impl Frame {
         ensures* after { sem 𝓛 (LendsRun self.entry 0 result) }
     {
         self.written = true;
+        self.fresh = false;
         let end = self.words.len();
         run_mut(&mut self.words, 0, end)
     }
@@ -114,6 +162,7 @@ impl Frame {
         ensures* after { sem 𝓛 (LendsRun self.entry start result) }
     {
         self.written = true;
+        self.fresh = false;
         run_mut(&mut self.words, start, end)
     }
 }

@@ -5,10 +5,13 @@ ghost use Rattle.std.specs.Prelude.{if◌then◌else◌, true, []};
 ghost use Rattle.std.specs.Option.{option_copied};
 ghost use Rattle.std.specs.Borrow.{sem};
 ghost use Rattle.model.specs.Stores.{changed_in, word_in};
+ghost use Rattle.model.specs.declared.limits.TheConstants.{MOST_WORDS};
 ghost use Rattle.page.specs.Aside.{left_in};
 ghost use Rattle.page.specs.Lending.{LendsFrame, LendsWords};
 
 use crate::frame::Frame;
+use layout::Layouts;
+use markbits::Row;
 use std::alloc::{AllocError, Global};
 use std::marker::Model;
 
@@ -184,6 +187,23 @@ impl Frames {
         let alloc = *self.frames.allocator();
         self.kept.push(Frame::new(alloc, words)?)?;
         Ok(())
+    }
+
+    /// Keeps the sizes of objects in a frame, as `Frame::keep_sizes`. Fails only if out of memory.
+    pub(crate) fn keep_sizes(
+        &mut self,
+        number: usize,
+        layouts: &Layouts,
+        live: &Row,
+    ) -> Result<(), AllocError>
+        requires there { number < length self.old }
+        requires short { length live.now ≤ MOST_WORDS }
+        ensures { self.new ≡ self.old }
+    {
+        let at = self.held_at;
+        put_back(&mut self.held, &mut self.frames, at);
+        self.held_at = self.frames.len();
+        self.frames[number].keep_sizes(layouts, live)
     }
 
     /// Returns how many frames' memory is kept.

@@ -5,6 +5,7 @@ mod copies;
 mod frame;
 mod frames;
 mod index;
+mod kept;
 mod size;
 mod store;
 

@@ -2,6 +2,7 @@
 mod behind;
 mod buffers;
 mod ending;
+mod kept;
 mod lending;
 mod relocating;
 mod runs;

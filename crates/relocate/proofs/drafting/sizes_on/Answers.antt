@@ -1,7 +1,7 @@
 use Rattle.std.proofs.Common.{ap, length, subst, arith, length-append, [], ◌∷◌}
 use Rattle.markbits.specs.Words.{IsNextPlace}
 use Rattle.relocate.specs.Drafts.{draft_size}
-use Rattle.relocate.proofs.Offsets.{left_next, left_none, sized_all, sized_next}
+use Rattle.forward.proofs.Offsets.{left_next, left_none, sized_all, sized_next}
 use Rattle.relocate.proofs.drafting.sizes_on.Goals as goal
 
 pub loop-offset-preserved : goal.loop-offset-preserved

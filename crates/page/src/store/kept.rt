@@ -1,0 +1,42 @@
+//! Sizes of a page's objects that are kept with its frame.
+
+ghost use Rattle.std.specs.Prelude.{◌≡◌, ◌≤◌, ℕ, List, length, IfSome, Some};
+ghost use Rattle.model.specs.Stores.{words_at};
+ghost use Rattle.model.specs.declared.limits.TheConstants.{MOST_WORDS};
+ghost use Rattle.page.specs.Kept.{sizes_in};
+
+use crate::store::Store;
+use forward::Sizes;
+use layout::Layouts;
+use markbits::Row;
+use std::alloc::AllocError;
+
+impl Store {
+    /// Keeps the sizes of the objects of a page at the set bits of a bitmap, which has at most as many bits as the
+    /// largest page has words, until a word of the page is written. If the page has no memory, it does nothing. Fails
+    /// only if out of memory. Nothing else changes.
+    pub fn keep_sizes(&mut self, page: u32, layouts: &Layouts, live: &Row) -> Result<(), AllocError>
+        requires { length live.now ≤ MOST_WORDS }
+        ensures { self.new ≡ self.old }
+    {
+        let Some(frame) = self.frame(page) else {
+            return Ok(());
+        };
+        if frame as usize >= self.frames.len() {
+            return Ok(());
+        }
+        self.frames.keep_sizes(frame as usize, layouts, live)
+    }
+
+    /// Returns the sizes of the objects of a page at the set bits of a bitmap, by these layouts, if these were kept and
+    /// no word of the page was written since.
+    #[tactic(auto, unfolding(model::specs::Stores::words_at))]
+    pub fn sizes(&self, page: u32, layouts: &Layouts, live: &Row) -> Option<&Sizes>
+        ensures { IfSome result (λ s. (words : List ℕ) × (words_at self.now page ≡ Some words)
+            × (s.now ≡ sizes_in layouts.now words live.now)) }
+    {
+        let frame = self.frame(page)?;
+        let frame = self.frames.get(frame as usize)?;
+        frame.sizes(layouts, live)
+    }
+}
