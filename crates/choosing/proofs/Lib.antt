@@ -2,3 +2,4 @@ pub mod Sums
 pub mod Packed
 pub mod Cuts
 pub mod Numbered
+pub mod Low

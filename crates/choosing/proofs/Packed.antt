@@ -1,6 +1,8 @@
 -- Next fit, object by object, is the plan's next fit.
 use Rattle.std.proofs.Common.{◌≡◌, ℕ, ◌+◌, ◌-◌, ◌<◌, ◌≤◌, Bool, true, false, List, [], ◌∷◌, ◌++◌, cond}
-use Rattle.std.proofs.Common.{map, nat_le, refl, sym, ap, ◌∙◌, arith, Some, None}
+use Rattle.std.proofs.Common.{zero, suc, drop, length, map, nat_le, refl, sym, ap, ◌∙◌, arith, Some, None}
+use Rattle.std.proofs.lemmas.List.{drop_all}
+use Rattle.std.proofs.lemmas.Option.{same_Some}
 use Rattle.std.specs.List.{slice_get}
 use Rattle.model.specs.States.{HeapState}
 use Rattle.model.specs.Plans.{offsets_from, live_offsets, places_from, target_count}
@@ -96,3 +98,20 @@ grown w s (n ∷ ns) last there =
     let one = one_grown w s n last in
     let rest = grown w (pack_one w s n) ns one.last one.there in
     record { more = omega (arith, one.more, rest.more); last = rest.last; there = rest.there }
+
+-- objects of these sizes are packed one after another
+pub more_packed : (w : ℕ) (s new whole : Packing) (ns : List ℕ) (i n : ℕ) → slice_get ns i ≡ Some n
+    → new ≡ pack_one w s n → pack w s (drop i ns) ≡ whole → pack w new (drop (i + 1) ns) ≡ whole
+more_packed w s new whole ns i n e more so_far =
+    let one : suc i ≡ i + 1 = omega arith in
+    ap (λ z. pack w z (drop (i + 1) ns)) more ∙ ap (λ k. pack w (pack_one w s n) (drop k ns)) (sym one)
+    ∙ sym (ap (pack w s) (left ns i e)) ∙ so_far
+  where
+    left : (ns : List ℕ) (i : ℕ) → slice_get ns i ≡ Some n → drop i ns ≡ n ∷ drop (suc i) ns
+    left [] i k = absurd (cc)
+    left (m ∷ ns) zero k = ap (λ x. x ∷ ns) (same_Some m n k)
+    left (m ∷ ns) (suc i) k = left ns i k
+
+pub all_packed : (w : ℕ) (s whole : Packing) (ns : List ℕ) (i : ℕ) → length ns ≤ i → pack w s (drop i ns) ≡ whole
+    → s ≡ whole
+all_packed w s whole ns i l so_far = ap (pack w s) (sym (drop_all i ns l)) ∙ so_far

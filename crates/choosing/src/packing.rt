@@ -2,10 +2,10 @@
 
 ghost use Rattle.std.specs.Prelude.{◌≡◌, ◌<◌, ◌≤◌, ◌+◌, ◌^◌, length, map};
 ghost use Rattle.model.specs.Plans.{offsets_from};
-ghost use Rattle.model.specs.declared.limits.TheConstants.{MOST_WORDS};
 ghost use Rattle.choosing.specs.Choices.{size_on, sizes_on};
 ghost use Rattle.choosing.specs.Packings.{has_page_for, pack, pack_if, pack_one, first_packing};
 
+use forward::Sizes;
 use heap::{Heap, Row};
 
 /// Where the next object would go, and how many targets the objects before it are in.
@@ -34,14 +34,10 @@ pub fn first_packing() -> Packing
 #[tactic(auto, unfolding(crate::specs::Packings::pack_one))]
 fn pack_one(words: u32, before: Packing, size: u32) -> Packing
     requires targets { before.target < 2 ^ 34 }
-    requires words { words ≤ MOST_WORDS }
-    requires offset { before.offset < 2 ^ 17 }
-    requires size { size < 2 ^ 17 }
     ensures value { result ≡ pack_one words before size }
     ensures targets { result.target ≤ before.target + 1 }
-    ensures offset { result.offset < 2 ^ 17 }
 {
-    if before.offset + size <= words {
+    if u64::from(before.offset) + u64::from(size) <= u64::from(words) {
         Packing {
             target: before.target,
             offset: before.offset + size,
@@ -56,15 +52,25 @@ fn pack_one(words: u32, before: Packing, size: u32) -> Packing
     }
 }
 
+/// Returns the packing after objects of these sizes, in targets of `words` words.
+fn pack_sizes(words: u32, sizes: &Sizes, before: Packing) -> Packing
+    requires targets { before.target ≤ 2 ^ 32 }
+    ensures { result ≡ pack words before sizes.now }
+{
+    let mut packing = before;
+    for number in 0..sizes.len() {
+        packing = pack_one(words, packing, sizes.size(number));
+    }
+    packing
+}
+
 /// Returns the packing after the live objects of a page, by its number from 1 and its live bitmap.
 fn pack_row(heap: &Heap, page: u32, row: &Row, before: Packing) -> Packing
     requires low { 0 < page }
     requires high { page ≤ heap.now.store.count }
     requires size { length row.now ≤ heap.now.store.words }
     requires targets { before.target ≤ 2 ^ 32 }
-    requires offset { before.offset < 2 ^ 17 }
-    ensures value { result ≡ pack heap.now.store.words before (map (size_on heap.now page) (offsets_from 0 row.now)) }
-    ensures offset { result.offset < 2 ^ 17 }
+    ensures { result ≡ pack heap.now.store.words before (map (size_on heap.now page) (offsets_from 0 row.now)) }
 {
     let words = heap.memory().page_words();
     let memory = heap.memory().words(page);
@@ -78,7 +84,8 @@ fn pack_row(heap: &Heap, page: u32, row: &Row, before: Packing) -> Packing
     packing
 }
 
-/// Returns the packing after the live objects of a page, by its number from 1.
+/// Returns the packing after the live objects of a page, by its number from 1: by their sizes that are kept with the
+/// page, if no word of it was written since, else by their headers.
 pub(crate) fn pack_page(heap: &Heap, page: u32, before: Packing) -> Packing
     requires low { 0 < page }
     requires high { page ≤ heap.now.store.count }
@@ -88,6 +95,9 @@ pub(crate) fn pack_page(heap: &Heap, page: u32, before: Packing) -> Packing
     ensures offset { result.offset < 2 ^ 17 }
 {
     heap.law();
+    if let Some(sizes) = heap.sizes_on(page) {
+        return pack_sizes(heap.memory().page_words(), sizes, before);
+    }
     match heap.live().get((page - 1) as usize) {
         None => before,
         Some(row) => pack_row(heap, page, row, before),

@@ -231,6 +231,11 @@ impl Parts {
         Ok(false)
     }
 
+    /// Returns the pages that were found after the first `known`, each with its live words before it.
+    fn found_from(&self, known: usize) -> &[(u64, u32)] {
+        &self.found[known.min(self.found.len())..]
+    }
+
     /// Chooses those of the found pages with the fewest live words, as many as there is space for, except a
     /// sixteenth of those with live objects.
     fn choose(&mut self, alloc: Global, heap: &Heap) -> Result<Vec<u32>, AllocError>
@@ -382,7 +387,17 @@ fn choose_part(heap: &mut ManagedHeap, alloc: Global, parts: &mut Parts) -> Resu
     }
 }
 
-/// Measures pages; if all are measured, the next part prepares frames.
+/// Keeps the sizes of the live objects of these pages, if memory is there for it.
+fn keep_sizes(heap: &mut ManagedHeap, pages: &[(u64, u32)])
+    ensures { heap.new ≡ heap.old }
+{
+    for index in 0..pages.len() {
+        let _ = heap.keep_sizes(pages[index].1);
+    }
+}
+
+/// Measures pages, and keeps the sizes of the live objects of those that were found; if all are measured, the next part
+/// prepares frames.
 fn measure_part(
     heap: &mut ManagedHeap,
     parts: &mut Parts,
@@ -391,7 +406,10 @@ fn measure_part(
 ) -> Result<bool, Refusal>
     ensures { MeasuresOn percent budget parts.old heap.old result parts.new heap.new }
 {
-    match parts.measure(heap.heap(), percent, pages_in(heap.heap(), budget)) {
+    let known = parts.found.len();
+    let measured = parts.measure(heap.heap(), percent, pages_in(heap.heap(), budget));
+    keep_sizes(heap, parts.found_from(known));
+    match measured {
         Ok(true) => {
             parts.begin_preparing(heap.heap());
             Ok(false)

@@ -48,6 +48,16 @@ impl Sizes {
         }
     }
 
+    /// Returns a copy. Fails only if out of memory.
+    pub fn copy(&self, alloc: Global) -> Result<Sizes, AllocError>
+        ensures { IfOk result (λ s. s ≡ self.now) }
+    {
+        Ok(Sizes {
+            before: Vec::from_slice(alloc, &self.before)?,
+            total: self.total,
+        })
+    }
+
     /// Adds the size of one more object, below 2^17: of at most as many objects as the largest page has words. Fails
     /// only if out of memory.
     #[inline(always)]
@@ -84,7 +94,7 @@ impl Sizes {
 
     /// Returns the size of an object, by its number, from 0.
     #[inline(always)]
-    pub(crate) fn size(&self, number: usize) -> u32
+    pub fn size(&self, number: usize) -> u32
         requires { number < length self.now }
         ensures { slice_get self.now number ≡ Some result }
     {

@@ -1,13 +1,18 @@
--- The size of an object, by the words of its page.
-use Rattle.std.proofs.Common.{◌≡◌, ℕ, ◌+◌, ◌*◌, ◌%◌, ◌<◌, List, Option, Some, ◌∙◌, ap}
+-- The sizes of objects, by the words of their page.
+use Rattle.std.proofs.Common.{◌≡◌, ℕ, ◌+◌, ◌*◌, ◌%◌, ◌<◌, ◌≤◌, Bool, true, false, List, [], ◌∷◌, Option, Some, None}
+use Rattle.std.proofs.Common.{length, map, refl, sym, ◌∙◌, ap, ap₂, arith}
+use Rattle.std.specs.Prelude.{IfSome}
 use Rattle.std.specs.List.{slice_get}
 use Rattle.std.specs.Option.{option_and_then}
 use Rattle.std.proofs.lemmas.Nat.{div-mul-add, mod-mul-add}
 use Rattle.model.specs.Data.{layout_at, layout_in, header_layout}
-use Rattle.model.specs.Plans.{object_words, words_of}
+use Rattle.model.specs.Bits.{of_page}
+use Rattle.model.specs.Plans.{live_offsets, object_words, offsets_from, words_of}
 use Rattle.model.specs.States.{HeapState}
 use Rattle.model.specs.Stores.{words_at}
 use Rattle.model.proofs.Memory.{word_on_page}
+use Rattle.page.specs.Kept as kept_specs
+use Rattle.page.specs.Kept.{sizes_in}
 
 -- it is that of the header at the object's offset
 pub size_in : (h : HeapState) (n o : ℕ) (ws : List ℕ) → o < h.store.words → words_at h.store n ≡ Some ws
@@ -21,3 +26,30 @@ size_in h n o ws low there =
     (words_at h.store m)) (div-mul-add n h.store.words o low)
     ∙ ap (option_and_then (λ (xs : List ℕ). slice_get xs ((n * h.store.words + o) % h.store.words))) there
     ∙ ap (slice_get ws) (mod-mul-add n h.store.words o low))
+
+-- sizes at offsets within a page
+same_sizes : (w : ℕ) (f g : ℕ → ℕ) → ((o : ℕ) → o < w → f o ≡ g o) → (b : ℕ) (row : List Bool) → b + length row ≤ w
+    → map f (offsets_from b row) ≡ map g (offsets_from b row)
+same_sizes w f g same b [] l = refl
+same_sizes w f g same b (true ∷ row) l =
+    ap₂ (λ n ns. n ∷ ns) (same b (omega (arith, l))) (same_sizes w f g same (b + 1) row (omega (arith, l)))
+same_sizes w f g same b (false ∷ row) l = same_sizes w f g same (b + 1) row (omega (arith, l))
+
+-- sizes that are kept are those of the page's live objects
+kept_sized : (h : HeapState) (n : ℕ) (row : List Bool) (ws s : List ℕ) → words_at h.store n ≡ Some ws
+    → row ≡ of_page h.live n → length row ≤ h.store.words → s ≡ sizes_in h.config.layouts ws row
+    → s ≡ map (λ o. object_words h (n * h.store.words + o)) (live_offsets h n)
+unfolding live_offsets
+kept_sized h n row ws s there is short kept =
+    kept
+    ∙ same_sizes h.store.words (kept_specs.size_in h.config.layouts ws) (λ o. object_words h (n * h.store.words + o))
+    (λ o l. sym (size_in h n o ws l there)) 0 row (omega (arith, short))
+    ∙ ap (λ r. map (λ o. object_words h (n * h.store.words + o)) (offsets_from 0 r)) is
+
+-- whatever was kept
+pub if_kept : {X : Type 0} (h : HeapState) (n : ℕ) (row : List Bool) (o : Option X) (sizes : X → List ℕ)
+    → row ≡ of_page h.live n → length row ≤ h.store.words
+    → IfSome o (λ x. (ws : List ℕ) × (words_at h.store n ≡ Some ws) × (sizes x ≡ sizes_in h.config.layouts ws row))
+    → IfSome o (λ x. sizes x ≡ map (λ o. object_words h (n * h.store.words + o)) (live_offsets h n))
+if_kept h n row None sizes is short kept = tt
+if_kept h n row (Some x) sizes is short (ws, there, same) = kept_sized h n row ws (sizes x) there is short same

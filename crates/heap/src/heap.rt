@@ -6,6 +6,7 @@ pub mod collecting;
 mod crossing;
 mod data;
 pub mod edits;
+mod kept;
 mod making;
 mod marks;
 pub mod opening;

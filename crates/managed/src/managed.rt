@@ -78,6 +78,14 @@ impl ManagedHeap {
         Ok(true)
     }
 
+    /// Keeps the sizes of the live objects of a page, by its number from 1, until a word of the page is written, so that
+    /// it can be protected without its objects' headers. Fails only if out of memory. The state of the heap stays.
+    pub fn keep_sizes(&mut self, page: u32) -> Result<(), AllocError>
+        ensures { self.new ≡ self.old }
+    {
+        self.heap.keep_sizes(page)
+    }
+
     /// Releases the memory of free frames to the allocator, except that of `most` frames. Until then, memory of
     /// frames that became free is kept for the next pages. The state of the heap stays.
     pub fn trim(&mut self, most: usize)

@@ -1,6 +1,9 @@
 -- The live objects of pages, and their sizes.
-use Rattle.std.proofs.Common.{◌≡◌, ℕ, ◌-◌, ◌<◌, ◌≤◌, Bool, List, [], length, map, sym, ap, Some, None}
+use Rattle.std.proofs.Common.{◌≡◌, ℕ, ◌-◌, ◌<◌, ◌≤◌, Bool, List, [], length, map, sym, ◌∙◌, ap, Some, None}
 use Rattle.std.specs.List.{slice_get}
+use Rattle.std.specs.Prelude.{count_by}
+use Rattle.std.proofs.lemmas.List.{length-map}
+use Rattle.forward.proofs.Ranked.{offsets_many}
 use Rattle.model.specs.Bits.{of_page}
 use Rattle.model.specs.Holding.{IsHeap}
 use Rattle.model.specs.Plans.{live_offsets, offsets_from}
@@ -30,3 +33,15 @@ module _ (h : HeapState) (n : ℕ) (low : 0 < n) where
   -- the live bitmap of a page has no more bits than the page has words
   pub row_sized : (r : List Bool) → IsHeap h → slice_get h.live (n - 1) ≡ Some r → length r ≤ h.store.words
   row_sized r i e = row_short h.store h.live (n - 1) r i.live e
+
+-- there is a size for each live object
+pub sizes_many : (h : HeapState) (n : ℕ) (row : List Bool) → row ≡ of_page h.live n
+    → length (draft_sizes h n) ≡ count_by (λ b. b) row
+unfolding live_offsets
+sizes_many h n row e = length-map (offsets_from 0 (of_page h.live n)) (draft_size h n)
+    ∙ offsets_many 0 (of_page h.live n) ∙ ap (count_by (λ b. b)) (sym e)
+
+pub sizes_live : (h : HeapState) (n : ℕ) (row : List Bool) → row ≡ of_page h.live n
+    → map (draft_size h n) (offsets_from 0 row) ≡ draft_sizes h n
+unfolding live_offsets
+sizes_live h n row e = ap (λ r. map (draft_size h n) (offsets_from 0 r)) e

@@ -2,6 +2,7 @@
 
 ghost use Rattle.std.specs.Prelude.{◌≡◌, ◌+◌, ◌<◌, ◌≤◌, ◌^◌, ◌++◌, ℕ, List, length, map, count_by, IfOk};
 ghost use Rattle.std.specs.List.{flat_map};
+ghost use Rattle.model.specs.Bits.{of_page};
 ghost use Rattle.model.specs.Owning.{Each};
 ghost use Rattle.model.specs.Plans.{offsets_from, places_from, plan_of, target_count};
 ghost use Rattle.model.specs.declared.limits.TheConstants.{MOST_WORDS};
@@ -31,6 +32,22 @@ fn sizes_on(alloc: Global, heap: &Heap, page: u32, row: &Row) -> Result<Sizes, A
     Ok(sizes)
 }
 
+/// Returns the sizes of the live objects of a page, by the page's number from 1 and its live bitmap: those that are kept
+/// with the page, if no word of it was written since, else those that the objects' headers say. Fails only if out of
+/// memory.
+fn live_sizes(alloc: Global, heap: &Heap, page: u32, row: &Row) -> Result<Sizes, AllocError>
+    requires low { 0 < page }
+    requires high { page ≤ heap.now.store.count }
+    requires row { row.now ≡ of_page heap.now.live page }
+    requires size { length row.now ≤ heap.now.store.words }
+    ensures { IfOk result (λ s. s ≡ draft_sizes heap.now page) }
+{
+    if let Some(sizes) = heap.sizes_on(page) {
+        return sizes.copy(alloc);
+    }
+    sizes_on(alloc, heap, page, row)
+}
+
 /// Plans places for the live objects of a page, by the page's number from 1 and its live bitmap, next fit behind what
 /// ends at `end`. Then `end` is where they end. Fails only if out of memory.
 fn draft_row(
@@ -42,18 +59,19 @@ fn draft_row(
 ) -> Result<Draft, AllocError>
     requires low { 0 < page }
     requires high { page ≤ heap.now.store.count }
+    requires row { row.now ≡ of_page heap.now.live page }
     requires size { length row.now ≤ heap.now.store.words }
     requires few { end.old.0 < 2 ^ 62 }
     ensures live { IfOk result (λ d. d.live ≡ row.now) }
     ensures many { IfOk result (λ d. length d.places ≡ count_by (λ b. b) d.live) }
-    ensures places { IfOk result (λ d. (ns : List ℕ) → places_from heap.now.store.words end.old.0 end.old.1
-        (map (draft_size heap.now page) (offsets_from 0 row.now) ++ ns)
+    ensures places { IfOk result (λ d. (ns : List ℕ)
+        → places_from heap.now.store.words end.old.0 end.old.1 (draft_sizes heap.now page ++ ns)
         ≡ d.places ++ places_from heap.now.store.words end.new.0 end.new.1 ns) }
     ensures counted { IfOk result (λ d. 0 < length d.places → target_count d.places ≡ end.new.0 + 1) }
     ensures near { IfOk result (λ d. end.new.0 ≤ end.old.0 + MOST_WORDS) }
 {
     heap.law();
-    let sizes = sizes_on(alloc, heap, page, row)?;
+    let sizes = live_sizes(alloc, heap, page, row)?;
     let words = heap.memory().page_words();
     let places = Runs::new(alloc, words, end, sizes)?;
     let live = row.copy(alloc)?;

@@ -1,7 +1,7 @@
 use Rattle.std.proofs.Common.{ap, ◌∙◌, subst, arith}
 use Rattle.model.specs.Stores.{StoreState}
 use Rattle.markbits.specs.Words.{IsNextPlace}
-use Rattle.relocate.proofs.Offsets.{left_next, left_none}
+use Rattle.forward.proofs.Offsets.{left_next, left_none}
 use Rattle.choosing.specs.Choices.{size_on}
 use Rattle.choosing.specs.Packings.{pack_one}
 use Rattle.choosing.proofs.Packed.{pack_all, pack_next}
@@ -21,12 +21,11 @@ loop-offset-preserved c =
           ∙ ap (λ (s : StoreState). s.words) c.memory.ensures) i) c.loop-offset.packing
           (c.object_words_on-size.ensures.value i))),
       omega (arith, c.loop-offset.invariant.1, c.pack_one-packing.ensures.targets, first.low),
-      c.pack_one-packing.ensures.offset,
       omega (arith, near),
     )
 
-pub returns-clause-value : goal.returns-clause-value
-returns-clause-value c =
+pub returns : goal.returns
+returns c =
     let row = c.args.row.now in
     pack_all c.args.heap.now.store.words (size_on c.args.heap.now c.args.page) c.loop-offset.packing _ _
     (left_none row c.loop-offset.from (subst (IsNextPlace row c.loop-offset.from) c.in_default.is c.next_from.ensures))

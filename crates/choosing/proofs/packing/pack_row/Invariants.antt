@@ -1,4 +1,4 @@
-use Rattle.std.proofs.Common.{◌≡◌, ◌+◌, ◌-◌, ◌^◌, ◌<◌, ◌≤◌, drop, length, map}
+use Rattle.std.proofs.Common.{◌≡◌, ◌+◌, ◌-◌, ◌≤◌, drop, length, map}
 use Rattle.model.specs.Plans.{offsets_from}
 use Rattle.choosing.specs.Choices.{size_on}
 use Rattle.choosing.specs.Packings.{pack}
@@ -9,7 +9,7 @@ invariant-loop-offset l =
     (pack l.fn.heap.store.words l.packing (map (size_on l.fn.heap l.fn.page)
     (offsets_from l.from (drop l.from l.fn.row)))
     ≡ pack l.fn.heap.store.words l.fn.before (map (size_on l.fn.heap l.fn.page) (offsets_from 0 l.fn.row)))
-    × (l.packing.target ≤ l.fn.before.target + l.from) × (l.packing.offset < 2 ^ 17) × (l.from ≤ length l.fn.row)
+    × (l.packing.target ≤ l.fn.before.target + l.from) × (l.from ≤ length l.fn.row)
 
 abbrev pub decreases-loop-offset : goal.decreases-loop-offset
 decreases-loop-offset l = length l.fn.row - l.from

@@ -1,6 +1,6 @@
 use Rattle.std.proofs.Common.{ℕ, ◌+◌, ap, ◌∙◌, subst, arith}
 use Rattle.markbits.specs.Words.{IsNextPlace}
-use Rattle.relocate.proofs.Offsets.{left_next, left_none}
+use Rattle.forward.proofs.Offsets.{left_next, left_none}
 use Rattle.choosing.specs.Choices.{size_on}
 use Rattle.choosing.proofs.Sums.{total_all, total_next, within}
 use Rattle.choosing.proofs.sparse.row_words.Goals as goal

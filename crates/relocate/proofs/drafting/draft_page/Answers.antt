@@ -2,13 +2,19 @@ use Rattle.std.proofs.Common.{◌-◌, ◌++◌, ◌∙◌, List, ℕ, [], ap, s
 use Rattle.std.specs.List.{slice_get}
 use Rattle.std.specs.Option.{option_copied}
 use Rattle.model.specs.Plans.{places_from}
-use Rattle.relocate.proofs.Offsets.{live_sized, none_live, none_sized, row_live, row_sized}
-use Rattle.relocate.proofs.Planning.{none_drafted, none_placed, result_drafted, result_placed}
+use Rattle.relocate.proofs.Offsets.{none_live, none_sized, row_live, row_sized}
+use Rattle.relocate.proofs.Planning.{none_drafted, none_placed, result_drafted}
 use Rattle.relocate.proofs.drafting.draft_page.Goals as goal
 
 pub draft_row-requires-clause-size : goal.draft_row-requires-clause-size
 draft_row-requires-clause-size c =
     row_sized c.args.heap.now c.args.page c.requires.low c.in-Some.row.now c.law.ensures.heap
+    (ap (λ rows. slice_get rows (c.args.page - 1)) (sym c.live.ensures) ∙ sym c.get.ensures
+    ∙ ap option_copied c.in-Some.is)
+
+pub draft_row-requires-clause-row : goal.draft_row-requires-clause-row
+draft_row-requires-clause-row c =
+    row_live c.args.heap.now c.args.page c.requires.low c.in-Some.row.now
     (ap (λ rows. slice_get rows (c.args.page - 1)) (sym c.live.ensures) ∙ sym c.get.ensures
     ∙ ap option_copied c.in-Some.is)
 
@@ -31,10 +37,3 @@ returns-in-Some-clause-draft c =
     (row_live c.args.heap.now c.args.page c.requires.low c.in-Some.row.now
     (ap (λ rows. slice_get rows (c.args.page - 1)) (sym c.live.ensures) ∙ sym c.get.ensures
     ∙ ap option_copied c.in-Some.is)) c.draft_row.ensures.live c.draft_row.ensures.many
-
-pub returns-in-Some-clause-places : goal.returns-in-Some-clause-places
-returns-in-Some-clause-places c =
-    result_placed c.args.heap.now.store.words c.args.end.now c.draft_row.new.end _ _ c.draft_row.result
-    (live_sized c.args.heap.now c.args.page c.requires.low c.in-Some.row.now
-    (ap (λ rows. slice_get rows (c.args.page - 1)) (sym c.live.ensures) ∙ sym c.get.ensures
-    ∙ ap option_copied c.in-Some.is)) c.draft_row.ensures.places

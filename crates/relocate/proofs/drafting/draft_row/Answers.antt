@@ -1,19 +1,16 @@
 use Rattle.std.proofs.Common.{◌++◌, ◌∙◌, List, ℕ, ap, ap₂, sym, length}
-use Rattle.std.proofs.lemmas.List.{length-map}
 use Rattle.std.specs.Prelude.{count_by}
-use Rattle.model.specs.Plans.{offsets_from, places_from}
+use Rattle.model.specs.Plans.{places_from}
 use Rattle.model.specs.Stores.{StoreState}
-use Rattle.forward.proofs.Ranked.{offsets_many}
 use Rattle.forward.specs.Drafts.{DraftState}
-use Rattle.relocate.specs.Drafts.{draft_size}
+use Rattle.relocate.proofs.Offsets.{sizes_many}
 use Rattle.relocate.proofs.drafting.draft_row.Goals as goal
 
 pub new-requires-2-clause-many : goal.new-requires-2-clause-many
 new-requires-2-clause-many c =
     let row = c.args.row.now in
     c.in_ok-places.ensures.many ∙ ap length c.in_ok-sizes.ensures
-    ∙ length-map (offsets_from 0 row) (draft_size c.args.heap.now c.args.page) ∙ offsets_many 0 row
-    ∙ ap (count_by (λ b. b)) (sym c.in_ok-live.ensures)
+    ∙ sizes_many c.args.heap.now c.args.page row c.requires.row ∙ ap (count_by (λ b. b)) (sym c.in_ok-live.ensures)
 
 pub returns-clause-places : goal.returns-clause-places
 returns-clause-places c ns =

@@ -1,0 +1,7 @@
+use Rattle.std.proofs.Common.{◌≡◌, ◌+◌, ◌≤◌, drop}
+use Rattle.choosing.specs.Packings.{pack}
+use Rattle.choosing.proofs.packing.pack_sizes.Given as goal
+
+abbrev pub invariant-loop-number : goal.invariant-loop-number
+invariant-loop-number l = (pack l.words l.packing (drop l.number l.fn.sizes) ≡ pack l.words l.fn.before l.fn.sizes)
+    × (l.packing.target ≤ l.fn.before.target + l.number)

@@ -1,0 +1,35 @@
+//! Sizes of live objects that are kept with their page.
+
+ghost use Rattle.std.specs.Prelude.{◌≡◌, ◌+◌, ◌*◌, ◌<◌, ◌≤◌, map, IfSome};
+ghost use Rattle.model.specs.Plans.{live_offsets, object_words};
+
+use crate::heap::Heap;
+use forward::Sizes;
+use std::alloc::AllocError;
+
+impl Heap {
+    /// Keeps the sizes of the live objects of a page, by its number from 1, until a word of the page is written. Fails
+    /// only if out of memory. Nothing else changes.
+    pub fn keep_sizes(&mut self, page: u32) -> Result<(), AllocError>
+        ensures { self.new ≡ self.old }
+    {
+        self.law();
+        match self.live.get(page.saturating_sub(1) as usize) {
+            None => Ok(()),
+            Some(row) => self.store.keep_sizes(page, &self.config.layouts, row),
+        }
+    }
+
+    /// Returns the sizes of the live objects of a page, by its number from 1, by rising offset, if these were kept and no
+    /// word of the page was written since.
+    pub fn sizes_on(&self, page: u32) -> Option<&Sizes>
+        requires low { 0 < page }
+        requires high { page ≤ self.now.store.count }
+        ensures { IfSome result (λ s. s.now
+            ≡ map (λ o. object_words self.now (page * self.now.store.words + o)) (live_offsets self.now page)) }
+    {
+        self.law();
+        let row = self.live.get((page - 1) as usize)?;
+        self.store.sizes(page, &self.config.layouts, row)
+    }
+}
