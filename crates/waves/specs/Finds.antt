@@ -1,0 +1,36 @@
+-- What a part of a wave finds.
+use Rattle.std.specs.Prelude.{◌≡◌, ℕ, zero, suc, ◌+◌, ◌<◌, ◌≤◌, true, Bool, List, [], ◌∷◌, ◌++◌, length}
+use Rattle.model.specs.Scans.{is_free_todo}
+use Rattle.model.specs.States.{Reference, HeapState}
+use Rattle.model.specs.Stores.{word_at}
+use Rattle.drains.specs.Drains.{refs_at}
+use Rattle.waves.specs.declared.found.Found.{Found}
+use Rattle.waves.specs.Waves.{words_for, notes_for, words_from, notes_from, all_words, all_notes}
+
+-- these objects are grey, no worker has them, and they are one after the other from an address on, and end before
+-- another address
+abbrev pub Rises : HeapState → ℕ → ℕ → List ℕ → Type 0
+Rises h from to [] = from ≤ to
+Rises h from to (a ∷ xs) = (from ≤ a) × (is_free_todo h a ≡ true) × Rises h (a + refs_at h a + 1) to xs
+
+-- what was found are such objects, and what their scans write and note
+pub record Finds (h : HeapState) (from to : ℕ) (f : Found) : Type 0 where
+  pub rises : Rises h from to f.objects.items
+  pub words : f.words.items ≡ all_words h f.objects.items
+  pub notes : f.notes.items ≡ all_notes h f.objects.items
+
+-- something more was found, from one address on and before another
+abbrev pub FindsMore : HeapState → ℕ → ℕ → Found → Found → Type 0
+FindsMore h from to f g = (start : ℕ) → Finds h start from f → Finds h start to g
+
+-- the mark of one reference was added, by its place
+pub record AddsField (h : HeapState) (place : ℕ) (f g : Found) : Type 0 where
+  pub objects : g.objects.items ≡ f.objects.items
+  pub words : g.words.items ≡ f.words.items ++ words_for h place (word_at h.store place)
+  pub notes : g.notes.items ≡ f.notes.items ++ notes_for h (word_at h.store place)
+
+-- the marks of k references of the object at an address were added, from number i on
+pub record AddsFields (h : HeapState) (a i k : ℕ) (f g : Found) : Type 0 where
+  pub objects : g.objects.items ≡ f.objects.items
+  pub words : g.words.items ≡ f.words.items ++ words_from h a i k
+  pub notes : g.notes.items ≡ f.notes.items ++ notes_from h a i k

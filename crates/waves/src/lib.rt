@@ -1,0 +1,14 @@
+//! Waves of a mark: many grey objects are scanned at once, on threads, with the effect of one after the other.
+#![tactic(auto)]
+
+mod finding;
+mod found;
+
+pub use found::Found;
+
+ghost use Rattle.waves.specs.Promises.{WavesScan};
+
+/// Proves that a wave scans its objects one after the other.
+pub fn law()
+    ensures scans { WavesScan }
+{}
