@@ -6,9 +6,10 @@ mod found;
 
 pub use found::Found;
 
-ghost use Rattle.waves.specs.Promises.{WavesScan};
+ghost use Rattle.waves.specs.Promises.{WavesScan, WavesDrain};
 
 /// Proves that a wave scans its objects one after the other.
 pub fn law()
     ensures scans { WavesScan }
+    ensures drain { WavesDrain }
 {}
