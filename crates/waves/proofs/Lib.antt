@@ -1,3 +1,4 @@
 pub mod Reading
 pub mod Folding
+pub mod Adding
 pub mod Done

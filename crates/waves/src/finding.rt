@@ -39,3 +39,53 @@ fn find_field(
     }
     Ok(())
 }
+
+/// Finds the same of the first `refs` references of an object. Fails only if out of memory.
+#[inline(always)]
+fn find_fields(
+    heap: &Heap,
+    address: Addr,
+    refs: u32,
+    found: &mut Found,
+) -> Result<(), AllocError>
+    requires few { refs < 2 ^ 16 }
+    ensures { IfOk result (λ _. AddsFields heap.now address 0 refs found.old found.new) }
+{
+    for index in 0..refs {
+        find_field(heap, address, index, found)?;
+    }
+    Ok(())
+}
+
+/// Returns how many references the object at an address has.
+#[inline(always)]
+#[tactic(auto, unfolding(drains::specs::Drains::refs_at))]
+fn refs_at(heap: &Heap, address: Addr) -> u32
+    ensures value { result ≡ refs_at heap.now address }
+    ensures range { result < 2 ^ 16 }
+{
+    match heap.layout_at(address) {
+        None => 0,
+        Some(layout) => u32::from(layout.refs),
+    }
+}
+
+/// Finds what a complete scan of a grey object writes and notes, and adds the object. Fails only if out of memory.
+#[inline(always)]
+#[tactic(auto, using(crate::proofs::Adding::object_found))]
+fn find_object(
+    heap: &Heap,
+    address: Addr,
+    refs: u32,
+    found: &mut Found,
+) -> Result<(), AllocError>
+    requires free { is_free_todo heap.now address ≡ true }
+    requires refs { refs ≡ refs_at heap.now address }
+    requires few { refs < 2 ^ 16 }
+    ensures { IfOk result (λ _. FindsMore heap.now address (address + refs + 1) found.old found.new) }
+{
+    find_fields(heap, address, refs, found)?;
+    found.objects.push(address)?;
+    found.notes.push(Word::of(address, true))?;
+    Ok(())
+}
