@@ -1,4 +1,5 @@
 pub mod Reading
 pub mod Folding
 pub mod Adding
+pub mod Pages
 pub mod Done

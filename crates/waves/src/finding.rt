@@ -89,3 +89,80 @@ fn find_object(
     found.notes.push(Word::of(address, true))?;
     Ok(())
 }
+
+/// Finds the grey object at a place of a page, if it ends within the page. Returns the place after it, or after the
+/// given one, if it is left. Fails only if out of memory.
+#[inline(always)]
+fn find_at(heap: &Heap, page: u32, place: u32, found: &mut Found) -> Result<u32, AllocError>
+    requires low { 0 < page }
+    requires high { page ≤ heap.now.store.count }
+    requires within { place < heap.now.store.words }
+    requires free { is_free_todo heap.now (page * heap.now.store.words + place) ≡ true }
+    ensures next { IfOk result (λ n. place < n) }
+    ensures within { IfOk result (λ n. n ≤ heap.now.store.words) }
+    ensures found { IfOk result (λ n. FindsMore heap.now (page * heap.now.store.words + place)
+        (page * heap.now.store.words + n) found.old found.new) }
+{
+    let words = heap.memory().page_words();
+    let address = heap.address_on(page, place);
+    let refs = refs_at(heap, address);
+    if refs >= words - place {
+        return Ok(place + 1);
+    }
+    find_object(heap, address, refs, found)?;
+    Ok(place + refs + 1)
+}
+
+/// Finds grey objects of a page, by its bitmap: those that end within the page, each from the end of the one before
+/// it on. No worker has an object. Fails only if out of memory.
+fn find_on(heap: &Heap, page: u32, row: &Row, found: &mut Found) -> Result<(), AllocError>
+    requires row { row.now ≡ of_page heap.now.todo page }
+    requires low { 0 < page }
+    requires high { page ≤ heap.now.store.count }
+    requires alone { list_any is_some heap.now.workers ≡ false }
+    ensures { IfOk result (λ _. FindsMore heap.now (page * heap.now.store.words)
+        ((page + 1) * heap.now.store.words) found.old found.new) }
+{
+    let words = heap.memory().page_words();
+    let mut from = 0;
+    while let Some(place) = row.next_from(from) {
+        if place >= words {
+            return Ok(());
+        }
+        from = find_at(heap, page, place, found)? as usize;
+    }
+    Ok(())
+}
+
+/// Finds grey objects of the page of an index from 0, as `find_on` does, if the page has a record.
+fn find_page(heap: &Heap, index: u32, found: &mut Found) -> Result<(), AllocError>
+    requires { list_any is_some heap.now.workers ≡ false }
+    ensures { IfOk result (λ _. FindsMore heap.now ((index + 1) * heap.now.store.words)
+        ((index + 2) * heap.now.store.words) found.old found.new) }
+{
+    if index >= heap.memory().page_count() {
+        return Ok(());
+    }
+    let Some(row) = heap.todo().get(index as usize) else {
+        return Ok(());
+    };
+    find_on(heap, index + 1, row, found)
+}
+
+/// Finds grey objects of the pages with records from one index on and before another, as `find_on` does.
+fn find_in(heap: &Heap, first: usize, end: usize, found: &mut Found) -> Result<(), AllocError>
+    requires order { first ≤ end }
+    requires alone { list_any is_some heap.now.workers ≡ false }
+    ensures { IfOk result (λ _. FindsMore heap.now ((first + 1) * heap.now.store.words)
+        ((end + 1) * heap.now.store.words) found.old found.new) }
+{
+    let mut from = first;
+    while let Some(index) = heap.todo().next_busy(from) {
+        if index as usize >= end {
+            return Ok(());
+        }
+        find_page(heap, index, found)?;
+        from = index as usize + 1;
+    }
+    Ok(())
+}
