@@ -53,7 +53,7 @@ marked_null : (h : HeapState) (a i : ℕ) (o : Option ℕ) → word_at h.store (
     → word_at h.store (a + (1 + i)) ≡ o
 marked_null h a i o e = ap (word_at h.store) (field_behind a i) ∙ e
 
-nothing_applied : (h : HeapState) → applied h [] [] ≡ h
+pub nothing_applied : (h : HeapState) → applied h [] [] ≡ h
 unfolding applied
 nothing_applied h = refl
 

@@ -2,4 +2,5 @@ pub mod Reading
 pub mod Folding
 pub mod Adding
 pub mod Pages
+pub mod Written
 pub mod Done

@@ -1,5 +1,5 @@
 -- What a part of a wave finds.
-use Rattle.std.specs.Prelude.{◌≡◌, ℕ, zero, suc, ◌+◌, ◌<◌, ◌≤◌, true, Bool, List, [], ◌∷◌, ◌++◌, length}
+use Rattle.std.specs.Prelude.{◌≡◌, ℕ, zero, suc, ◌+◌, ◌*◌, ◌<◌, ◌≤◌, true, Bool, List, [], ◌∷◌, ◌++◌, length}
 use Rattle.model.specs.Scans.{is_free_todo}
 use Rattle.model.specs.States.{Reference, HeapState}
 use Rattle.model.specs.Stores.{word_at}
@@ -34,3 +34,26 @@ pub record AddsFields (h : HeapState) (a i k : ℕ) (f g : Found) : Type 0 where
   pub objects : g.objects.items ≡ f.objects.items
   pub words : g.words.items ≡ f.words.items ++ words_from h a i k
   pub notes : g.notes.items ≡ f.notes.items ++ notes_from h a i k
+
+-- what several parts have found, in their order
+abbrev pub found_objects : List Found → List ℕ
+found_objects [] = []
+found_objects (f ∷ fs) = f.objects.items ++ found_objects fs
+
+abbrev pub found_words : List Found → List (ℕ × Reference)
+found_words [] = []
+found_words (f ∷ fs) = f.words.items ++ found_words fs
+
+abbrev pub found_notes : List Found → List Reference
+found_notes [] = []
+found_notes (f ∷ fs) = f.notes.items ++ found_notes fs
+
+-- the address at which the page of an index, from 0, begins
+abbrev pub start_of : HeapState → ℕ → ℕ
+start_of h index = (index + 1) * h.store.words
+
+-- each of these parts has found something on its `size` pages, from that of an index on
+abbrev pub PartsFind : HeapState → ℕ → ℕ → List Found → Type 0
+PartsFind h first size [] = Unit {0}
+PartsFind h first size (f ∷ fs) =
+    Finds h (start_of h first) (start_of h (first + size)) f × PartsFind h (first + size) size fs

@@ -1,6 +1,7 @@
 //! Waves of a mark: many grey objects are scanned at once, on threads, with the effect of one after the other.
 #![tactic(auto)]
 
+mod applying;
 mod finding;
 mod found;
 
