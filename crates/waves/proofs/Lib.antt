@@ -3,4 +3,5 @@ pub mod Folding
 pub mod Adding
 pub mod Pages
 pub mod Written
+pub mod Parts
 pub mod Done

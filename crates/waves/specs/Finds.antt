@@ -57,3 +57,10 @@ abbrev pub PartsFind : HeapState → ℕ → ℕ → List Found → Type 0
 PartsFind h first size [] = Unit {0}
 PartsFind h first size (f ∷ fs) =
     Finds h (start_of h first) (start_of h (first + size)) f × PartsFind h (first + size) size fs
+
+-- several parts have found objects that rise, from an address on and before some other
+pub record PartsFound (h : HeapState) (from : ℕ) (fs : List Found) : Type 0 where
+  pub to : ℕ
+  pub rises : Rises h from to (found_objects fs)
+  pub words : found_words fs ≡ all_words h (found_objects fs)
+  pub notes : found_notes fs ≡ all_notes h (found_objects fs)

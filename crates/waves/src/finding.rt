@@ -150,7 +150,7 @@ fn find_page(heap: &Heap, index: u32, found: &mut Found) -> Result<(), AllocErro
 }
 
 /// Finds grey objects of the pages with records from one index on and before another, as `find_on` does.
-fn find_in(heap: &Heap, first: usize, end: usize, found: &mut Found) -> Result<(), AllocError>
+pub(crate) fn find_in(heap: &Heap, first: usize, end: usize, found: &mut Found) -> Result<(), AllocError>
     requires order { first ≤ end }
     requires alone { list_any is_some heap.now.workers ≡ false }
     ensures { IfOk result (λ _. FindsMore heap.now ((first + 1) * heap.now.store.words)

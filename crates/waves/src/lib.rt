@@ -4,6 +4,7 @@
 mod applying;
 mod finding;
 mod found;
+mod parting;
 
 pub use found::Found;
 
