@@ -4,4 +4,5 @@ pub mod Adding
 pub mod Pages
 pub mod Written
 pub mod Parts
+pub mod Waved
 pub mod Done
