@@ -55,6 +55,7 @@ use bench_support::{Work, tell, works};
 use filling::{narrow, wide};
 use pauseless::Layout;
 use std::alloc::Global;
+use std::thread::Threads;
 use std::time::Clock;
 use turning::{Shape, Task, Turn};
 
@@ -117,18 +118,40 @@ fn part<R: Clock + Print>(rt: &R, alloc: Global, asked: &Work, layout: Layout) -
     tell(rt, &laps, asked.timed)
 }
 
+/// Does marks of a shape on threads, and prints what they took.
+fn wave<R: Clock + Print + Threads + Sync>(
+    rt: &R,
+    alloc: Global,
+    asked: &Work,
+    shape: Shape,
+) -> Result<()> {
+    let [count, words, threads, times, _] = asked.numbers;
+    let task = Task {
+        shape,
+        count,
+        words,
+        turn: Turn::Mark,
+        times,
+    };
+    let laps = turning::waves(rt, alloc, task, threads)?;
+    tell(rt, &laps, asked.timed)
+}
+
 /// Does a work by its name, and prints what it has come to.
-fn work<R: Clock + Print>(rt: &R, alloc: Global, asked: &Work) -> Result<()> {
+fn work<R: Clock + Print + Threads + Sync>(rt: &R, alloc: Global, asked: &Work) -> Result<()> {
     let [_, _, size, _, _] = asked.numbers;
     match asked.name.as_str() {
         "parts" => part(rt, alloc, asked, narrow(size)?),
         "wide" => part(rt, alloc, asked, wide(size)?),
+        "waves-list" => wave(rt, alloc, asked, Shape::List),
+        "waves-tree" => wave(rt, alloc, asked, Shape::Tree),
+        "waves-graph" => wave(rt, alloc, asked, Shape::Graph),
         _ => give(rt, alloc, asked),
     }
 }
 
 /// Does each work.
-fn run<R: Clock + Print>(rt: &R, alloc: Global, works: &[Work]) -> Result<()> {
+fn run<R: Clock + Print + Threads + Sync>(rt: &R, alloc: Global, works: &[Work]) -> Result<()> {
     for asked in works {
         work(rt, alloc, asked)?;
     }
