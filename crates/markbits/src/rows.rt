@@ -213,7 +213,7 @@ impl Row {
 /// and takes no memory.
 #[derive(Debug, Drop)]
 pub struct Rows {
-    rows: Vec<Row>,
+    pub(crate) rows: Vec<Row>,
 }
 
 impl Model for Rows {
