@@ -13,3 +13,4 @@ pub mod GivenRows
 pub mod Found
 pub mod Compared
 pub mod Sizes
+pub mod Noting

@@ -9,3 +9,4 @@ pub mod Runs
 pub mod Marking
 pub mod Found
 pub mod Writing
+pub mod Batches

@@ -8,6 +8,7 @@ mod data;
 pub mod edits;
 mod making;
 mod marks;
+mod noting;
 pub mod opening;
 pub mod references;
 mod registers;

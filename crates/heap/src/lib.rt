@@ -1,10 +1,12 @@
 //! The heap: pages, threads, workers, globals and the collector's state, and the steps of threads.
 #![tactic(auto)]
 
+mod batch;
 mod fault;
 mod globals;
 mod heap;
 
+pub use batch::Batch;
 pub use fault::NewFault;
 pub use heap::Heap;
 pub use heap::at_once::found::FoundObject;

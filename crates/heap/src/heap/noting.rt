@@ -1,0 +1,101 @@
+//! Notes for the bitmaps of marked and of grey objects, which are taken in on threads.
+
+ghost use Rattle.std.specs.Prelude.{◌≡◌, ◌≤◌, ◌<◌, length, map};
+ghost use Rattle.model.specs.Bits.{put_bit};
+ghost use Rattle.heap.specs.Batches.{batch_notes, edit_one, edited, todo_edit, mark_edit, with_notes};
+
+use crate::batch::Batch;
+use crate::heap::Heap;
+use markbits::{IndexedRows, Row, Rows};
+use page::Store;
+use refword::Word;
+use std::thread::Threads;
+
+/// Sets or clears a bit of a bitmap, by the bitmap's index; the first of these bitmaps has index `start`.
+#[inline(always)]
+fn put_in(chunk: &mut [Row], start: usize, index: usize, offset: usize, bit: bool)
+    ensures { chunk.new ≡ edit_one start chunk.old (index, put_bit offset bit) }
+{
+    if index < start || index - start >= chunk.len() {
+        return;
+    }
+    let row = &mut chunk[index - start];
+    row.put(offset, bit);
+}
+
+/// Takes a note in to the bitmaps of grey objects from number `start` on.
+#[inline(always)]
+fn note_grey(chunk: &mut [Row], start: usize, note: Word, mark: &Rows, store: &Store)
+    ensures { chunk.new ≡ edit_one start chunk.old (todo_edit mark.now store.now.words note) }
+{
+    let Some(address) = note.addr() else {
+        return;
+    };
+    let (page, offset) = (store.page_of(address), store.offset_of(address));
+    let index = page.saturating_sub(1) as usize;
+    if note.nmt() {
+        put_in(chunk, start, index, offset as usize, false);
+    } else if !mark.bit_on(page, offset) {
+        put_in(chunk, start, index, offset as usize, true);
+    }
+}
+
+/// Takes a note in to the bitmaps of marked objects from number `start` on.
+#[inline(always)]
+fn note_marked(chunk: &mut [Row], start: usize, note: Word, store: &Store)
+    ensures { chunk.new ≡ edit_one start chunk.old (mark_edit store.now.words note) }
+{
+    let Some(address) = note.addr() else {
+        return;
+    };
+    if note.nmt() {
+        return;
+    }
+    let (page, offset) = (store.page_of(address), store.offset_of(address));
+    put_in(chunk, start, page.saturating_sub(1) as usize, offset as usize, true);
+}
+
+/// Takes notes in to the bitmaps of grey objects from number `start` on, one after the other.
+fn note_grey_all(chunk: &mut [Row], start: usize, notes: &[Word], mark: &Rows, store: &Store)
+    ensures { chunk.new ≡ edited start chunk.old (map (todo_edit mark.now store.now.words) notes.now) }
+{
+    for index in 0..notes.len() {
+        note_grey(chunk, start, notes[index], mark, store);
+    }
+}
+
+/// The same with the notes of batches.
+fn note_grey_batches(
+    chunk: &mut [Row],
+    start: usize,
+    batches: &[Batch],
+    mark: &Rows,
+    store: &Store,
+)
+    ensures { chunk.new
+        ≡ edited start chunk.old (map (todo_edit mark.now store.now.words) (batch_notes batches.now)) }
+{
+    for index in 0..batches.len() {
+        let batch = &batches[index];
+        note_grey_all(chunk, start, &batch.notes, mark, store);
+    }
+}
+
+/// Takes notes in to the bitmaps of marked objects from number `start` on, one after the other.
+fn note_marked_all(chunk: &mut [Row], start: usize, notes: &[Word], store: &Store)
+    ensures { chunk.new ≡ edited start chunk.old (map (mark_edit store.now.words) notes.now) }
+{
+    for index in 0..notes.len() {
+        note_marked(chunk, start, notes[index], store);
+    }
+}
+
+/// The same with the notes of batches.
+fn note_marked_batches(chunk: &mut [Row], start: usize, batches: &[Batch], store: &Store)
+    ensures { chunk.new ≡ edited start chunk.old (map (mark_edit store.now.words) (batch_notes batches.now)) }
+{
+    for index in 0..batches.len() {
+        let batch = &batches[index];
+        note_marked_all(chunk, start, &batch.notes, store);
+    }
+}
