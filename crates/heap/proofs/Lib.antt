@@ -14,3 +14,4 @@ pub mod Found
 pub mod Compared
 pub mod Sizes
 pub mod Noting
+pub mod Chunks

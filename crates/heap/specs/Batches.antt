@@ -80,3 +80,8 @@ with_notes h ns = record h {
   mark = edited 0 h.mark (map (mark_edit h.store.words) ns);
   todo = edited 0 h.todo (map (todo_edit h.mark h.store.words) ns);
 }
+
+-- all these bitmaps are empty
+abbrev pub AreEmpty : List (List Bool) → Type 0
+AreEmpty [] = Unit {0}
+AreEmpty (r ∷ rs) = (r ≡ []) × AreEmpty rs

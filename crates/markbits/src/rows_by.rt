@@ -10,6 +10,13 @@ use crate::rows::{Row, Rows};
 use std::thread::{Threads, for_each_chunk_mut};
 
 impl Rows {
+    /// Returns the number of bitmaps, with those that are empty.
+    pub fn len(&self) -> usize
+        ensures { result ≡ length self.now }
+    {
+        self.rows.len()
+    }
+
     /// Changes the first `end` bitmaps, `size` at once, on threads: each call gets the index of its first one.
     pub fn change_by<R: Threads + Sync, F: Fn(usize, &mut [Row]) + Sync>(
         &mut self,
@@ -41,6 +48,13 @@ fn settle_all(busy: &mut IndexedRow, rows: &Rows)
 }
 
 impl IndexedRows {
+    /// Returns the bitmaps without the index.
+    pub fn rows(&self) -> &Rows
+        ensures { result.now ≡ self.now }
+    {
+        &self.rows
+    }
+
     /// Changes the first `end` bitmaps as `Rows::change_by` does.
     pub fn change_by<R: Threads + Sync, F: Fn(usize, &mut [Row]) + Sync>(
         &mut self,

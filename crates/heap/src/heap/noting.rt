@@ -1,8 +1,8 @@
 //! Notes for the bitmaps of marked and of grey objects, which are taken in on threads.
 
-ghost use Rattle.std.specs.Prelude.{◌≡◌, ◌≤◌, ◌<◌, length, map};
+ghost use Rattle.std.specs.Prelude.{◌≡◌, ◌≤◌, ◌<◌, ◌-◌, length, map, drop, slice_get, Some, true, []};
 ghost use Rattle.model.specs.Bits.{put_bit};
-ghost use Rattle.heap.specs.Batches.{batch_notes, edit_one, edited, todo_edit, mark_edit, with_notes};
+ghost use Rattle.heap.specs.Batches.{AreEmpty, batch_notes, edit_one, edited, todo_edit, mark_edit, with_notes};
 
 use crate::batch::Batch;
 use crate::heap::Heap;
@@ -98,4 +98,68 @@ fn note_marked_batches(chunk: &mut [Row], start: usize, batches: &[Batch], store
         let batch = &batches[index];
         note_marked_all(chunk, start, &batch.notes, store);
     }
+}
+
+/// Returns true only if the bitmap of an index is empty.
+fn is_empty_at(rows: &Rows, index: usize) -> bool
+    ensures { result ≡ true → slice_get rows.now index ≡ Some [] }
+{
+    match rows.get(index) {
+        None => false,
+        Some(row) => row.len() == 0,
+    }
+}
+
+/// Returns the index after the last bitmap that isn't empty.
+fn used_rows(rows: &Rows) -> usize
+    ensures within { result ≤ length rows.now }
+    ensures rest { AreEmpty (drop result rows.now) }
+{
+    let mut end = rows.len();
+    while end > 0 {
+        if !is_empty_at(rows, end - 1) {
+            return end;
+        }
+        end -= 1;
+    }
+    end
+}
+
+/// Takes the notes of batches in to the bitmaps of grey objects, in about `parts` parts, on threads.
+fn note_grey_by<R: Threads + Sync>(
+    rt: &R,
+    todo: &mut IndexedRows,
+    mark: &Rows,
+    store: &Store,
+    batches: &[Batch],
+    parts: usize,
+)
+    ensures { todo.new ≡ edited 0 todo.old (map (todo_edit mark.now store.now.words) (batch_notes batches.now)) }
+{
+    let end = used_rows(todo.rows());
+    let size = end.div_ceil(parts.max(1)).max(1);
+    let note = |start: usize, chunk: &mut [Row]|
+        ensures { chunk.exit.now ≡ edited start chunk.entry.now
+            (map (todo_edit mark.entry.now store.entry.now.words) (batch_notes batches.entry.now)) }
+    { note_grey_batches(chunk, start, batches, mark, store) };
+    todo.change_by(rt, end, size, &note);
+}
+
+/// Takes the notes of batches in to the bitmaps of marked objects, in about `parts` parts, on threads.
+fn note_marked_by<R: Threads + Sync>(
+    rt: &R,
+    mark: &mut Rows,
+    store: &Store,
+    batches: &[Batch],
+    parts: usize,
+)
+    ensures { mark.new ≡ edited 0 mark.old (map (mark_edit store.now.words) (batch_notes batches.now)) }
+{
+    let end = used_rows(mark);
+    let size = end.div_ceil(parts.max(1)).max(1);
+    let note = |start: usize, chunk: &mut [Row]|
+        ensures { chunk.exit.now ≡ edited start chunk.entry.now
+            (map (mark_edit store.entry.now.words) (batch_notes batches.entry.now)) }
+    { note_marked_batches(chunk, start, batches, store) };
+    mark.change_by(rt, end, size, &note);
 }

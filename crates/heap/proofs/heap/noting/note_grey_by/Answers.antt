@@ -1,0 +1,16 @@
+use Rattle.std.proofs.Common.{map, ap, sym, subst, drop, length, ◌≤◌, ◌∙◌}
+use Rattle.heap.specs.Batches.{AreEmpty, batch_notes, todo_edit}
+use Rattle.heap.proofs.Chunks.{rows_edited, in_chunk, todo_keep}
+use Rattle.heap.proofs.heap.noting.note_grey_by.Goals as goal
+
+pub returns : goal.returns
+returns g c =
+    let es = map (todo_edit c.args.mark.now c.args.store.now.words) (batch_notes c.args.batches.now) in
+    rows_edited c.args.todo.now c.change_by.new.self c.used_rows-end.result es c.change_by.ensures.len
+    (subst (λ rows. c.used_rows-end.result ≤ length rows) c.rows.ensures c.used_rows-end.ensures.within)
+    c.change_by.ensures.rest
+    (subst (λ rows. AreEmpty (drop c.used_rows-end.result rows)) c.rows.ensures c.used_rows-end.ensures.rest)
+    (todo_keep c.args.mark.now c.args.store.now.words (batch_notes c.args.batches.now))
+    (λ i d l. let p = (c.change_by.ensures.low i d l).1 in
+    in_chunk p.start p.offset i p.argument.now p.after_call.now es _ _ d p.start_plus_offset p.offset_in_chunk
+    p.old_element p.call p.new_element)
