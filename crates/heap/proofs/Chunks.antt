@@ -10,7 +10,8 @@ use Rattle.std.proofs.lemmas.List.{drop_more, drop_all, get_or-take, get_or-drop
 use Rattle.std.proofs.lemmas.Option.{slice_get_within, get_or_from_slice_get}
 use Rattle.model.specs.States.{Reference, change_at, change_found}
 use Rattle.model.specs.Bits.{put_bit, bit_at}
-use Rattle.model.proofs.Lists.{same_lists}
+use Rattle.model.specs.Holding.{AreRowsOf}
+use Rattle.model.specs.Stores.{StoreState}
 use Rattle.heap.specs.Batches.{AreEmpty, edit_one, edited, todo_edit, mark_edit}
 
 -- ---- one element
@@ -220,3 +221,50 @@ empty_more rows n e low at =
 
 pub empty_none : (rows : List (List Bool)) (n : ℕ) → n ≡ length rows → AreEmpty (drop n rows)
 empty_none rows n e = subst AreEmpty (sym (drop_all n rows (omega (arith, e)))) tt
+
+-- ---- lengths
+
+-- edits that leave each bitmap as long as it is
+abbrev pub KeepLength : List (ℕ × (List Bool → List Bool)) → Type 0
+KeepLength [] = Unit {0}
+KeepLength (e ∷ es) = ((row : List Bool) → length (e.1 row) ≡ length row) × KeepLength es
+
+altered_lengths : (rows : List (List Bool)) (i : ℕ) (f : List Bool → List Bool)
+    → ((row : List Bool) → length (f row) ≡ length row) → map length (alter rows i f) ≡ map length rows
+altered_lengths [] i f k = refl
+altered_lengths (r ∷ rs) zero f k = ap (λ n. n ∷ map length rs) (k r)
+altered_lengths (r ∷ rs) (suc i) f k = ap (λ ns. length r ∷ ns) (altered_lengths rs i f k)
+
+edit_lengths : (start : ℕ) (rows : List (List Bool)) (e : ℕ × (List Bool → List Bool))
+    → ((row : List Bool) → length (e.1 row) ≡ length row) → map length (edit_one start rows e) ≡ map length rows
+edit_lengths start rows e k = by_place (nat_le start e.0)
+  where
+    by_place : (b : Bool) → map length (if b then change_at rows (e.0 - start) e.1 else rows) ≡ map length rows
+    by_place true = ap (map length) (changed_is rows (e.0 - start) e.1) ∙ altered_lengths rows (e.0 - start) e.1 k
+    by_place false = refl
+
+pub edited_lengths : (start : ℕ) (rows : List (List Bool)) (es : List (ℕ × (List Bool → List Bool))) → KeepLength es
+    → map length (edited start rows es) ≡ map length rows
+edited_lengths start rows [] k = refl
+edited_lengths start rows (e ∷ es) k =
+    edited_lengths start (edit_one start rows e) es k.1 ∙ edit_lengths start rows e k.0
+
+pub todo_lengths : (mark : List (List Bool)) (w : ℕ) (ns : List Reference) → KeepLength (map (todo_edit mark w) ns)
+todo_lengths mark w [] = tt
+todo_lengths mark w (None ∷ ns) = ((λ row. refl), todo_lengths mark w ns)
+todo_lengths mark w (Some (a, true) ∷ ns) = ((λ row. length-set row (a % w) false), todo_lengths mark w ns)
+todo_lengths mark w (Some (a, false) ∷ ns) = (by_bit (bit_at mark w a), todo_lengths mark w ns)
+  where
+    by_bit : (b : Bool) (row : List Bool) → length (if b then row else put_bit (a % w) true row) ≡ length row
+    by_bit true row = refl
+    by_bit false row = length-set row (a % w) true
+
+pub mark_lengths : (w : ℕ) (ns : List Reference) → KeepLength (map (mark_edit w) ns)
+mark_lengths w [] = tt
+mark_lengths w (None ∷ ns) = ((λ row. refl), mark_lengths w ns)
+mark_lengths w (Some (a, true) ∷ ns) = ((λ row. refl), mark_lengths w ns)
+mark_lengths w (Some (a, false) ∷ ns) = ((λ row. length-set row (a % w) true), mark_lengths w ns)
+
+pub edits_keep : (s : StoreState) (rows new : List (List Bool)) (es : List (ℕ × (List Bool → List Bool)))
+    → AreRowsOf s rows → KeepLength es → new ≡ edited 0 rows es → AreRowsOf s new
+edits_keep s rows new es r k e = ap (map length) e ∙ edited_lengths 0 rows es k ∙ r

@@ -163,3 +163,16 @@ fn note_marked_by<R: Threads + Sync>(
     { note_marked_batches(chunk, start, batches, store) };
     mark.change_by(rt, end, size, &note);
 }
+
+impl Heap {
+    /// A raw edit: takes the notes of batches in at once, in about `parts` parts on threads. Whether an object was
+    /// marked is read as it was before all notes. It takes no memory: if a thread can't be started, this one does the
+    /// work.
+    #[tactic(auto, unfolding(crate::specs::Batches::with_notes))]
+    pub fn raw_note_by<R: Threads + Sync>(&mut self, rt: &R, batches: &[Batch], parts: usize)
+        ensures { self.new ≡ with_notes self.old (batch_notes batches.now) }
+    {
+        note_grey_by(rt, &mut self.todo, &self.mark, &self.store, batches, parts);
+        note_marked_by(rt, &mut self.mark, &self.store, batches, parts);
+    }
+}
