@@ -32,11 +32,11 @@ row_read [] k e = absurd (cc)
 row_read (b ∷ bs) zero e = ap Some e
 row_read (b ∷ bs) (suc k) e = row_read bs k e
 
-bit_set : (rows : List (List Bool)) (w a b : ℕ) → bit_at rows w a ≡ true → bit_at (with_bit rows w b true) w a ≡ true
+pub bit_set : (rows : List (List Bool)) (w a b : ℕ) → bit_at rows w a ≡ true → bit_at (with_bit rows w b true) w a ≡ true
 bit_set rows w a b e =
     bit_read (with_bit rows w b true) w a true (bit_stays rows w a b (row_read (of_page rows (a / w)) (a % w) e))
 
-row_other : (row : List Bool) (o k : ℕ) (v : Bool) → k ≢ o → get_or (set row o v) k false ≡ get_or row k false
+pub row_other : (row : List Bool) (o k : ℕ) (v : Bool) → k ≢ o → get_or (set row o v) k false ≡ get_or row k false
 row_other [] o k v d = refl
 row_other (b ∷ bs) zero zero v d = absurd (d refl)
 row_other (b ∷ bs) zero (suc k) v d = refl
@@ -56,7 +56,7 @@ rows_set (r ∷ rs) zero (suc n) o k row v e d = refl
 rows_set (r ∷ rs) (suc i) zero o k row v e d = refl
 rows_set (r ∷ rs) (suc i) (suc n) o k row v e d = rows_set rs i n o k row v e (λ s. d (ap suc s))
 
-rows_other : (rows : List (List Bool)) (i n o k : ℕ) (v : Bool) → (n ≡ i → k ≢ o)
+pub rows_other : (rows : List (List Bool)) (i n o k : ℕ) (v : Bool) → (n ≡ i → k ≢ o)
     → get_or (get_or (change_at rows i (put_bit o v)) n []) k false ≡ get_or (get_or rows n []) k false
 rows_other rows i n o k v d = by_row (slice_get rows i) refl
   where

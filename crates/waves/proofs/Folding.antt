@@ -14,7 +14,8 @@ use Rattle.drains.specs.Waiting.{all_noted}
 use Rattle.drains.proofs.Blanks.{field_of_nothing, field_of_blank}
 use Rattle.drains.proofs.Scanned.{field_behind}
 use Rattle.drains.proofs.Waiting.{none_noted}
-use Rattle.waves.specs.Waves.{noted_in, all_noted_in, all_written, applied, words_for, note_of, notes_for}
+use Rattle.heap.specs.Batches.{noted_in, all_noted_in, all_written, applied}
+use Rattle.waves.specs.Waves.{words_for, note_of, notes_for}
 use Rattle.waves.specs.Waves.{words_from, notes_from, words_of, notes_of, all_words, all_notes, waved, all_scanned}
 use Rattle.waves.specs.Waves.{AreAbove, AreApart}
 use Rattle.waves.proofs.Reading.{Reads, field_reads, scan_reads, words_from_same, notes_from_same, all_words_same}

@@ -5,4 +5,5 @@ pub mod Pages
 pub mod Written
 pub mod Parts
 pub mod Waved
+pub mod Passes
 pub mod Done

@@ -10,7 +10,7 @@ use Rattle.model.specs.declared.records.Scan.{Scan}
 use Rattle.model.specs.Bits.{of_page, bit_at, bit_on}
 use Rattle.model.specs.Scans.{is_scan_of, is_taken, is_free_todo}
 use Rattle.model.specs.States.{HeapState}
-use Rattle.waves.specs.declared.found.Found.{Found}
+use Rattle.heap.specs.declared.batch.Batch.{Batch}
 use Rattle.waves.specs.Finds.{Finds, FindsMore}
 use Rattle.waves.proofs.Adding.{more_none, more_then}
 
@@ -37,15 +37,24 @@ free_here h row page o e within here alone =
     ∙ ap (λ (r : List Bool). get_or r o false) (sym e) ∙ here)
     (ap not (none_taken h.workers a alone))
 
+-- a bit of a page is that of an address
+pub marked_here : (h : HeapState) (page o a : ℕ) (b : Bool) → a ≡ page * h.store.words + o → o < h.store.words
+    → b ≡ bit_on h.mark page o → b ≡ true → bit_at h.mark h.store.words a ≡ true
+marked_here h page o a b e within read is =
+    ap (bit_at h.mark h.store.words) e
+    ∙ ap (λ n. bit_on h.mark n ((page * h.store.words + o) % h.store.words)) (div-mul-add page h.store.words o within)
+    ∙ ap (λ n. bit_on h.mark page n) (mul-add-mod_self_right page h.store.words o ∙ mod-eq_of_lt within)
+    ∙ sym read ∙ is
+
 -- ---- the places of a page
 
 one_more : (page words : ℕ) → (page + 1) * words ≡ page * words + words
 one_more page words = grind arith
 
-pub page_first : (h : HeapState) (page : ℕ) (f : Found) → FindsMore h (page * h.store.words) (page * h.store.words + 0) f f
+pub page_first : (h : HeapState) (page : ℕ) (f : Batch) → FindsMore h (page * h.store.words) (page * h.store.words + 0) f f
 page_first h page f = more_none h (page * h.store.words) (page * h.store.words + 0) f (omega arith)
 
-pub page_next : (h : HeapState) (page from place to : ℕ) (f g j : Found)
+pub page_next : (h : HeapState) (page from place to : ℕ) (f g j : Batch)
     → FindsMore h (page * h.store.words) (page * h.store.words + from) f g → from ≤ place
     → FindsMore h (page * h.store.words + place) (page * h.store.words + to) g j
     → FindsMore h (page * h.store.words) (page * h.store.words + to) f j
@@ -54,7 +63,7 @@ page_next h page from place to f g j a le b =
     (more_then h (page * h.store.words + from) (page * h.store.words + place) (page * h.store.words + to) g g j
     (more_none h (page * h.store.words + from) (page * h.store.words + place) g (omega (arith, le))) b)
 
-pub page_last : (h : HeapState) (page from : ℕ) (f g : Found)
+pub page_last : (h : HeapState) (page from : ℕ) (f g : Batch)
     → FindsMore h (page * h.store.words) (page * h.store.words + from) f g → from ≤ h.store.words
     → FindsMore h (page * h.store.words) ((page + 1) * h.store.words) f g
 page_last h page from f g a le =
@@ -70,18 +79,18 @@ row_of rows i row e =
     let next : suc i ≡ i + 1 = omega arith in
     sym (get_or_from_slice_get rows i row [] e) ∙ ap (of_page rows) next
 
-pub pages_passed : (h : HeapState) (m n : ℕ) (f : Found) → m ≤ n
+pub pages_passed : (h : HeapState) (m n : ℕ) (f : Batch) → m ≤ n
     → FindsMore h (m * h.store.words) (n * h.store.words) f f
 pages_passed h m n f le =
     more_none h (m * h.store.words) (n * h.store.words) f (mul-le-mul_right h.store.words le)
 
-pub two_more : (h : HeapState) (index : ℕ) (f g : Found)
+pub two_more : (h : HeapState) (index : ℕ) (f g : Batch)
     → FindsMore h ((index + 1) * h.store.words) ((index + 1 + 1) * h.store.words) f g
     → FindsMore h ((index + 1) * h.store.words) ((index + 2) * h.store.words) f g
 two_more h index f g a =
     subst (λ n. FindsMore h ((index + 1) * h.store.words) (n * h.store.words) f g) (omega arith) a
 
-pub pages_next : (h : HeapState) (first from index : ℕ) (f g j : Found)
+pub pages_next : (h : HeapState) (first from index : ℕ) (f g j : Batch)
     → FindsMore h ((first + 1) * h.store.words) ((from + 1) * h.store.words) f g → from ≤ index
     → FindsMore h ((index + 1) * h.store.words) ((index + 2) * h.store.words) g j
     → FindsMore h ((first + 1) * h.store.words) ((index + 1 + 1) * h.store.words) f j
@@ -91,7 +100,7 @@ pages_next h first from index f g j a le b =
     (pages_passed h (from + 1) (index + 1) g (omega (arith, le)))
     (subst (λ n. FindsMore h ((index + 1) * h.store.words) (n * h.store.words) g j) (omega arith) b))
 
-pub pages_last : (h : HeapState) (first from end : ℕ) (f g : Found)
+pub pages_last : (h : HeapState) (first from end : ℕ) (f g : Batch)
     → FindsMore h ((first + 1) * h.store.words) ((from + 1) * h.store.words) f g → from ≤ end
     → FindsMore h ((first + 1) * h.store.words) ((end + 1) * h.store.words) f g
 pages_last h first from end f g a le =

@@ -4,17 +4,19 @@ use Rattle.std.proofs.Common.{refl, sym, ◌∙◌, ap, arith, subst}
 use Rattle.std.proofs.Math.Nat.{mul-le-mul_right}
 use Rattle.model.specs.Scans.{is_free_todo}
 use Rattle.model.specs.States.{Reference, HeapState}
-use Rattle.waves.specs.declared.found.Found.{Found}
-use Rattle.waves.specs.Finds.{Rises, Finds, FindsMore, found_objects, found_words, found_notes, start_of, PartsFind}
+use Rattle.heap.specs.declared.batch.Batch.{Batch}
+use Rattle.heap.specs.Batches.{batch_objects, batch_words, batch_notes}
+use Rattle.waves.specs.Finds.{AreMarked, Rises, Finds, FindsMore, start_of, PartsFind}
 use Rattle.waves.specs.Finds.{PartsFound}
 use Rattle.waves.specs.Waves.{all_words, all_notes}
-use Rattle.waves.proofs.Adding.{rises_both, words_both, notes_both}
+use Rattle.waves.proofs.Adding.{rises_both, marked_both, words_both, notes_both}
 
 -- nothing was found
-pub none_found : (h : HeapState) (from to : ℕ) (f : Found) → f.objects.items ≡ [] → f.words.items ≡ []
+pub none_found : (h : HeapState) (from to : ℕ) (f : Batch) → f.objects.items ≡ [] → f.words.items ≡ []
     → f.notes.items ≡ [] → from ≤ to → Finds h from to f
 none_found h from to f objects words notes le = record {
   rises = subst (Rises h from to) (sym objects) le;
+  marked = subst (AreMarked h) (sym objects) tt;
   words = words ∙ ap (all_words h) (sym objects);
   notes = notes ∙ ap (all_notes h) (sym objects);
 }
@@ -25,11 +27,11 @@ starts_rise h m n le = mul-le-mul_right h.store.words (omega (arith, le))
 -- ---- several parts
 
 -- each part has found something on its pages
-abbrev pub EachFinds : HeapState → ℕ → ℕ → List Found → Type 0
-EachFinds h first size fs = (i : ℕ) (d : Found) → i < length fs
+abbrev pub EachFinds : HeapState → ℕ → ℕ → List Batch → Type 0
+EachFinds h first size fs = (i : ℕ) (d : Batch) → i < length fs
     → Finds h (start_of h (first + i * size)) (start_of h (first + (i * size + size))) (get_or fs i d)
 
-pub parts_find : (h : HeapState) (first size : ℕ) (fs : List Found) → EachFinds h first size fs
+pub parts_find : (h : HeapState) (first size : ℕ) (fs : List Batch) → EachFinds h first size fs
     → PartsFind h first size fs
 parts_find h first size [] k = tt
 parts_find h first size (f ∷ fs) k = (
@@ -57,21 +59,22 @@ parts_find h first size (f ∷ fs) k = (
     end : (i n : ℕ) → first + (suc i * n + n) ≡ first + n + (i * n + n)
     end i n = omega (arith, more i n)
 
-pub parts_found : (h : HeapState) (first size : ℕ) (fs : List Found) → PartsFind h first size fs
+pub parts_found : (h : HeapState) (first size : ℕ) (fs : List Batch) → PartsFind h first size fs
     → PartsFound h (start_of h first) fs
-parts_found h first size [] k = record { to = start_of h first; rises = omega arith; words = refl; notes = refl }
+parts_found h first size [] k = record { to = start_of h first; rises = omega arith; marked = tt; words = refl; notes = refl }
 parts_found h first size (f ∷ fs) k =
     let rest = parts_found h (first + size) size fs k.1 in
     record {
       to = rest.to;
-      rises = rises_both h (start_of h first) (start_of h (first + size)) rest.to f.objects.items (found_objects fs)
+      rises = rises_both h (start_of h first) (start_of h (first + size)) rest.to f.objects.items (batch_objects fs)
           k.0.rises rest.rises;
-      words = (λ i. k.0.words i ++ rest.words i) ∙ sym (words_both h f.objects.items (found_objects fs));
-      notes = (λ i. k.0.notes i ++ rest.notes i) ∙ sym (notes_both h f.objects.items (found_objects fs));
+      marked = marked_both h f.objects.items (batch_objects fs) k.0.marked rest.marked;
+      words = (λ i. k.0.words i ++ rest.words i) ∙ sym (words_both h f.objects.items (batch_objects fs));
+      notes = (λ i. k.0.notes i ++ rest.notes i) ∙ sym (notes_both h f.objects.items (batch_objects fs));
     }
 
-pub all_found : (h : HeapState) (size : ℕ) (fs : List Found)
-    → ((i : ℕ) (d : Found) → i < length fs
+pub all_found : (h : HeapState) (size : ℕ) (fs : List Batch)
+    → ((i : ℕ) (d : Batch) → i < length fs
     → Finds h (start_of h (i * size)) (start_of h (i * size + size)) (get_or fs i d)) → PartsFound h (start_of h 0) fs
 all_found h size fs k = parts_found h 0 size fs (parts_find h 0 size fs each)
   where

@@ -9,9 +9,9 @@ use Rattle.heap.specs.Marking.{marked_at, noted, MarksApart}
 use Rattle.model.specs.Bits.{bit_at, with_bit}
 use Rattle.model.specs.States.{Reference, HeapState}
 use Rattle.model.specs.Stores.{with_word}
-use Rattle.waves.specs.declared.found.Found.{Found}
-use Rattle.waves.specs.Finds.{found_words, found_notes}
-use Rattle.waves.specs.Waves.{applied}
+use Rattle.heap.specs.declared.batch.Batch.{Batch}
+use Rattle.heap.specs.Batches.{batch_words, batch_notes}
+use Rattle.heap.specs.Batches.{applied}
 use Rattle.waves.proofs.Folding.{applied_both, nothing_applied}
 use Rattle.waves.proofs.Adding.{append_none}
 
@@ -80,31 +80,31 @@ notes_end h g ns i e le =
 
 -- ---- parts
 
-pub write_next : (h g k : HeapState) (fs : List Found) (i : ℕ) (f : Found)
-    → applied g (found_words (drop i fs)) [] ≡ h → IsAt fs i f → k ≡ applied g f.words.items []
-    → applied k (found_words (drop (i + 1) fs)) [] ≡ h
+pub write_next : (h g k : HeapState) (fs : List Batch) (i : ℕ) (f : Batch)
+    → applied g (batch_words (drop i fs)) [] ≡ h → IsAt fs i f → k ≡ applied g f.words.items []
+    → applied k (batch_words (drop (i + 1) fs)) [] ≡ h
 write_next h g k fs i f e at d =
-    ap (λ x. applied x (found_words (drop (i + 1) fs)) []) d
-    ∙ applied_both g f.words.items (found_words (drop (i + 1) fs)) [] []
-    ∙ ap (λ us. applied g (found_words us) []) (sym (here fs i f at)) ∙ e
+    ap (λ x. applied x (batch_words (drop (i + 1) fs)) []) d
+    ∙ applied_both g f.words.items (batch_words (drop (i + 1) fs)) [] []
+    ∙ ap (λ us. applied g (batch_words us) []) (sym (here fs i f at)) ∙ e
 
-pub write_end : (h g : HeapState) (fs : List Found) (i : ℕ) → applied g (found_words (drop i fs)) [] ≡ h
+pub write_end : (h g : HeapState) (fs : List Batch) (i : ℕ) → applied g (batch_words (drop i fs)) [] ≡ h
     → length fs ≤ i → g ≡ h
 write_end h g fs i e le =
-    sym (nothing_applied g) ∙ ap (λ us. applied g (found_words us) []) (sym (drop_all i fs le)) ∙ e
+    sym (nothing_applied g) ∙ ap (λ us. applied g (batch_words us) []) (sym (drop_all i fs le)) ∙ e
 
-pub take_next : (h g k : HeapState) (fs : List Found) (i : ℕ) (f : Found)
-    → applied g [] (found_notes (drop i fs)) ≡ h → IsAt fs i f → k ≡ applied g [] f.notes.items
-    → applied k [] (found_notes (drop (i + 1) fs)) ≡ h
+pub take_next : (h g k : HeapState) (fs : List Batch) (i : ℕ) (f : Batch)
+    → applied g [] (batch_notes (drop i fs)) ≡ h → IsAt fs i f → k ≡ applied g [] f.notes.items
+    → applied k [] (batch_notes (drop (i + 1) fs)) ≡ h
 take_next h g k fs i f e at d =
-    ap (λ x. applied x [] (found_notes (drop (i + 1) fs))) d
-    ∙ applied_both g [] [] f.notes.items (found_notes (drop (i + 1) fs))
-    ∙ ap (λ us. applied g [] (found_notes us)) (sym (here fs i f at)) ∙ e
+    ap (λ x. applied x [] (batch_notes (drop (i + 1) fs))) d
+    ∙ applied_both g [] [] f.notes.items (batch_notes (drop (i + 1) fs))
+    ∙ ap (λ us. applied g [] (batch_notes us)) (sym (here fs i f at)) ∙ e
 
-pub take_end : (h g : HeapState) (fs : List Found) (i : ℕ) → applied g [] (found_notes (drop i fs)) ≡ h
+pub take_end : (h g : HeapState) (fs : List Batch) (i : ℕ) → applied g [] (batch_notes (drop i fs)) ≡ h
     → length fs ≤ i → g ≡ h
 take_end h g fs i e le =
-    sym (nothing_applied g) ∙ ap (λ us. applied g [] (found_notes us)) (sym (drop_all i fs le)) ∙ e
+    sym (nothing_applied g) ∙ ap (λ us. applied g [] (batch_notes us)) (sym (drop_all i fs le)) ∙ e
 
 -- words first, and then notes
 pub both_applied : (h g k : HeapState) (vs : List (ℕ × Reference)) (ns : List Reference) → g ≡ applied h vs []

@@ -5,12 +5,11 @@ ghost use Rattle.std.specs.List.{list_any};
 ghost use Rattle.std.specs.Option.{is_some};
 ghost use Rattle.model.specs.References.{field_address};
 ghost use Rattle.model.specs.Scans.{is_free_todo};
-ghost use Rattle.model.specs.Bits.{of_page};
+ghost use Rattle.model.specs.Bits.{bit_at, of_page};
 ghost use Rattle.drains.specs.Drains.{refs_at};
 ghost use Rattle.waves.specs.Finds.{AddsField, AddsFields, Finds, FindsMore};
 
-use crate::found::Found;
-use heap::{Heap, Row, read_reference};
+use heap::{Batch, Heap, Row, read_reference};
 use refword::{Addr, Word};
 use std::alloc::AllocError;
 
@@ -20,7 +19,7 @@ fn find_field(
     heap: &Heap,
     address: Addr,
     index: u32,
-    found: &mut Found,
+    found: &mut Batch,
 ) -> Result<(), AllocError>
     requires few { index < 2 ^ 16 }
     ensures { IfOk result (λ _. AddsField heap.now (field_address address index) found.old found.new) }
@@ -46,7 +45,7 @@ fn find_fields(
     heap: &Heap,
     address: Addr,
     refs: u32,
-    found: &mut Found,
+    found: &mut Batch,
 ) -> Result<(), AllocError>
     requires few { refs < 2 ^ 16 }
     ensures { IfOk result (λ _. AddsFields heap.now address 0 refs found.old found.new) }
@@ -77,9 +76,10 @@ fn find_object(
     heap: &Heap,
     address: Addr,
     refs: u32,
-    found: &mut Found,
+    found: &mut Batch,
 ) -> Result<(), AllocError>
     requires free { is_free_todo heap.now address ≡ true }
+    requires marked { bit_at heap.now.mark heap.now.store.words address ≡ true }
     requires refs { refs ≡ refs_at heap.now address }
     requires few { refs < 2 ^ 16 }
     ensures { IfOk result (λ _. FindsMore heap.now address (address + refs + 1) found.old found.new) }
@@ -90,10 +90,10 @@ fn find_object(
     Ok(())
 }
 
-/// Finds the grey object at a place of a page, if it ends within the page. Returns the place after it, or after the
+/// Finds the grey object at a place of a page, if it is marked and ends within the page. Returns the place after it, or after the
 /// given one, if it is left. Fails only if out of memory.
 #[inline(always)]
-fn find_at(heap: &Heap, page: u32, place: u32, found: &mut Found) -> Result<u32, AllocError>
+fn find_at(heap: &Heap, page: u32, place: u32, found: &mut Batch) -> Result<u32, AllocError>
     requires low { 0 < page }
     requires high { page ≤ heap.now.store.count }
     requires within { place < heap.now.store.words }
@@ -106,7 +106,7 @@ fn find_at(heap: &Heap, page: u32, place: u32, found: &mut Found) -> Result<u32,
     let words = heap.memory().page_words();
     let address = heap.address_on(page, place);
     let refs = refs_at(heap, address);
-    if refs >= words - place {
+    if refs >= words - place || !heap.mark().bit_on(u64::from(page), place) {
         return Ok(place + 1);
     }
     find_object(heap, address, refs, found)?;
@@ -115,7 +115,7 @@ fn find_at(heap: &Heap, page: u32, place: u32, found: &mut Found) -> Result<u32,
 
 /// Finds grey objects of a page, by its bitmap: those that end within the page, each from the end of the one before
 /// it on. No worker has an object. Fails only if out of memory.
-fn find_on(heap: &Heap, page: u32, row: &Row, found: &mut Found) -> Result<(), AllocError>
+fn find_on(heap: &Heap, page: u32, row: &Row, found: &mut Batch) -> Result<(), AllocError>
     requires row { row.now ≡ of_page heap.now.todo page }
     requires low { 0 < page }
     requires high { page ≤ heap.now.store.count }
@@ -135,7 +135,7 @@ fn find_on(heap: &Heap, page: u32, row: &Row, found: &mut Found) -> Result<(), A
 }
 
 /// Finds grey objects of the page of an index from 0, as `find_on` does, if the page has a record.
-fn find_page(heap: &Heap, index: u32, found: &mut Found) -> Result<(), AllocError>
+fn find_page(heap: &Heap, index: u32, found: &mut Batch) -> Result<(), AllocError>
     requires { list_any is_some heap.now.workers ≡ false }
     ensures { IfOk result (λ _. FindsMore heap.now ((index + 1) * heap.now.store.words)
         ((index + 2) * heap.now.store.words) found.old found.new) }
@@ -150,7 +150,7 @@ fn find_page(heap: &Heap, index: u32, found: &mut Found) -> Result<(), AllocErro
 }
 
 /// Finds grey objects of the pages with records from one index on and before another, as `find_on` does.
-pub(crate) fn find_in(heap: &Heap, first: usize, end: usize, found: &mut Found) -> Result<(), AllocError>
+pub(crate) fn find_in(heap: &Heap, first: usize, end: usize, found: &mut Batch) -> Result<(), AllocError>
     requires order { first ≤ end }
     requires alone { list_any is_some heap.now.workers ≡ false }
     ensures { IfOk result (λ _. FindsMore heap.now ((first + 1) * heap.now.store.words)

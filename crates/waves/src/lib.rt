@@ -3,11 +3,9 @@
 
 mod applying;
 mod finding;
-mod found;
 mod parting;
 mod waving;
 
-pub use found::Found;
 pub use waving::drain_by;
 
 ghost use Rattle.waves.specs.Promises.{WavesScan, WavesDrain};

@@ -2,25 +2,25 @@
 
 ghost use Rattle.std.specs.Prelude.{◌≡◌, ◌≤◌, ◌<◌, ◌+◌, ◌*◌, ◌^◌, false, IfOk, IfSome, length, is_some};
 ghost use Rattle.std.specs.List.{list_any};
-ghost use Rattle.waves.specs.Finds.{Finds, PartsFound, found_objects, start_of};
+ghost use Rattle.heap.specs.Batches.{batch_objects};
+ghost use Rattle.waves.specs.Finds.{Finds, PartsFound, start_of};
 
 use crate::finding::find_in;
-use crate::found::Found;
-use heap::Heap;
+use heap::{Batch, Heap};
 use std::alloc::{AllocError, Global};
 use std::thread::{Threads, map_indices};
 
 /// Finds grey objects of the pages with records from one index on and before another. If out of memory, it finds
 /// none.
-fn find_part(heap: &Heap, first: usize, end: usize) -> Found
+fn find_part(heap: &Heap, first: usize, end: usize) -> Batch
     requires order { first ≤ end }
     requires alone { list_any is_some heap.now.workers ≡ false }
     ensures { Finds heap.now (start_of heap.now first) (start_of heap.now end) result }
 {
-    let mut found = Found::new(heap.allocator());
+    let mut found = Batch::new(heap.allocator());
     match find_in(heap, first, end, &mut found) {
         Ok(()) => found,
-        Err(_) => Found::new(heap.allocator()),
+        Err(_) => Batch::new(heap.allocator()),
     }
 }
 
@@ -31,12 +31,12 @@ pub(crate) fn find_parts<R: Threads + Sync>(
     heap: &Heap,
     parts: usize,
     size: usize,
-) -> Result<Vec<Found, Global>, AllocError>
+) -> Result<Vec<Batch, Global>, AllocError>
     requires alone { list_any is_some heap.now.workers ≡ false }
     requires few { parts * size < 2 ^ 64 }
     ensures { IfOk result (λ fs. PartsFound heap.now (start_of heap.now 0) fs.items) }
 {
-    let find = |index: usize| -> Found
+    let find = |index: usize| -> Batch
         requires alone { list_any is_some heap.now.workers ≡ false }
         requires few { index * size + size < 2 ^ 64 }
         ensures { Finds heap.entry.now (start_of heap.entry.now (index * size))
@@ -47,8 +47,8 @@ pub(crate) fn find_parts<R: Threads + Sync>(
 }
 
 /// Returns how many objects the parts have found, if at most `most`.
-pub(crate) fn count_parts(parts: &[Found], most: u64) -> Option<u64>
-    ensures count { IfSome result (λ n. n ≡ length (found_objects parts.now)) }
+pub(crate) fn count_parts(parts: &[Batch], most: u64) -> Option<u64>
+    ensures count { IfSome result (λ n. n ≡ length (batch_objects parts.now)) }
     ensures few { IfSome result (λ n. n ≤ most) }
 {
     let mut left = most;

@@ -65,7 +65,7 @@ fn wave<R: Threads + Sync>(
     let Some(count) = count_parts(&found, most) else {
         return 0;
     };
-    apply_parts(heap, &found);
+    apply_parts(rt, heap, &found, parts);
     count
 }
 

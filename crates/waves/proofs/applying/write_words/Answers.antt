@@ -1,5 +1,5 @@
 use Rattle.std.proofs.Common.{arith, []}
-use Rattle.waves.specs.Waves.{applied}
+use Rattle.heap.specs.Batches.{applied}
 use Rattle.waves.proofs.Written.{words_next, words_end}
 use Rattle.waves.proofs.applying.write_words.Goals as goal
 

@@ -1,5 +1,5 @@
 use Rattle.std.proofs.Common.{◌≡◌, [], drop}
-use Rattle.waves.specs.Waves.{applied}
+use Rattle.heap.specs.Batches.{applied}
 use Rattle.waves.proofs.applying.write_words.Given as goal
 
 abbrev pub invariant-loop-index : goal.invariant-loop-index

@@ -1,8 +1,0 @@
-use Rattle.std.proofs.Common.{◌≡◌, [], drop}
-use Rattle.waves.specs.Waves.{applied}
-use Rattle.waves.specs.Finds.{found_notes}
-use Rattle.waves.proofs.applying.note_parts.Given as goal
-
-abbrev pub invariant-loop-index : goal.invariant-loop-index
-invariant-loop-index l =
-    applied l.heap [] (found_notes (drop l.index l.fn.parts)) ≡ applied l.fn.heap [] (found_notes l.fn.parts)
