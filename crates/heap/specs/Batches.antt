@@ -1,7 +1,9 @@
 -- Batches: references that are written, and notes for the bitmaps, many at once.
 use Rattle.std.specs.Prelude.{◌≡◌, ℕ, ◌-◌, ◌/◌, ◌%◌, Bool, true, false, List, [], ◌∷◌, ◌++◌, Option, Some, None, map}
-use Rattle.std.specs.Prelude.{if◌then◌else◌, nat_le}
+use Rattle.std.specs.Prelude.{if◌then◌else◌, nat_le, ◌==◌, ◌<◌, length, get_or, filter}
 use Rattle.refword.specs.Words.{bits_of}
+use Rattle.refword.specs.declared.word.Word.{Word}
+use Rattle.std.specs.Global.{Vec}
 use Rattle.model.specs.Bits.{put_bit, bit_at, with_bit}
 use Rattle.model.specs.States.{Reference, HeapState, change_at}
 use Rattle.model.specs.Stores.{StoreState, with_word}
@@ -85,3 +87,20 @@ with_notes h ns = record h {
 abbrev pub AreEmpty : List (List Bool) → Type 0
 AreEmpty [] = Unit {0}
 AreEmpty (r ∷ rs) = (r ≡ []) × AreEmpty rs
+
+-- sorted notes
+
+-- which group of `size` pages a note belongs to, counted from 0
+abbrev pub bucket_of : ℕ → ℕ → Reference → ℕ
+bucket_of w size None = 0
+bucket_of w size (Some x) = (x.0 / w - 1) / size
+
+-- a note belongs to a group
+abbrev pub in_bucket : ℕ → ℕ → ℕ → Reference → Bool
+in_bucket w size c n = bucket_of w size n == c
+
+-- lists have the notes of the first `count` groups, each in order
+pub record AreSorted (w size count : ℕ) (lists : List (Vec Word)) (notes : List Reference) : Type 0 where
+  pub many : length lists ≡ count
+  pub each : (c : ℕ) (d : Vec Word) → c < count
+      → (get_or lists c d).items ≡ filter (in_bucket w size c) notes

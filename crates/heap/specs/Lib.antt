@@ -10,3 +10,4 @@ pub mod Marking
 pub mod Found
 pub mod Writing
 pub mod Batches
+pub mod Sorting

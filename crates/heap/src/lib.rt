@@ -5,6 +5,7 @@ mod batch;
 mod fault;
 mod globals;
 mod heap;
+mod sorting;
 
 pub use batch::Batch;
 pub use fault::NewFault;

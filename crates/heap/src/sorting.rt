@@ -1,0 +1,34 @@
+//! Sorting notes by groups of pages.
+
+ghost use Rattle.std.specs.Prelude.{◌≡◌, ◌<◌, ◌^◌, ◌/◌, IfOk, length, ◌++◌, ◌∷◌, []};
+ghost use Rattle.heap.specs.Batches.{bucket_of, AreSorted};
+ghost use Rattle.heap.specs.Sorting.{PutsNote};
+
+use page::Store;
+use refword::Word;
+use std::alloc::{AllocError, Global};
+
+/// Returns the group of 2 to the power of `shift` pages that a note belongs to.
+#[inline(always)]
+fn bucket_of(store: &Store, note: Word, shift: u32) -> usize
+    requires { shift < 32 }
+    ensures { result ≡ bucket_of store.now.words (2 ^ shift) note }
+{
+    let Some(address) = note.addr() else {
+        return 0;
+    };
+    (store.page_of(address).saturating_sub(1) >> shift) as usize
+}
+
+/// Adds a note to one of some lists, if it exists. Fails only if out of memory.
+#[inline(always)]
+fn put_note(lists: &mut Vec<Vec<Word, Global>, Global>, bucket: usize, note: Word) -> Result<(), AllocError>
+    ensures { IfOk result (λ _. PutsNote lists.old.items bucket note lists.new.items) }
+{
+    if bucket >= lists.len() {
+        return Ok(());
+    }
+    let list = &mut lists[bucket];
+    list.push(note)?;
+    Ok(())
+}
