@@ -15,3 +15,4 @@ pub mod Compared
 pub mod Sizes
 pub mod Noting
 pub mod Chunks
+pub mod Sorted

@@ -10,3 +10,8 @@ pub record PutsNote (old : List (Vec Word)) (bucket : ℕ) (note : Reference) (n
   pub many : length new ≡ length old
   pub each : (c : ℕ) (d : Vec Word) → c < length old → (get_or new c d).items
       ≡ (if bucket == c then (get_or old c d).items ++ (note ∷ []) else (get_or old c d).items)
+
+-- so many lists, each of them empty
+pub record AreBlank (lists : List (Vec Word)) (count : ℕ) : Type 0 where
+  pub many : length lists ≡ count
+  pub each : (c : ℕ) (d : Vec Word) → c < count → (get_or lists c d).items ≡ []

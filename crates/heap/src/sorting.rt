@@ -2,7 +2,7 @@
 
 ghost use Rattle.std.specs.Prelude.{◌≡◌, ◌<◌, ◌^◌, ◌/◌, IfOk, length, ◌++◌, ◌∷◌, []};
 ghost use Rattle.heap.specs.Batches.{bucket_of, AreSorted};
-ghost use Rattle.heap.specs.Sorting.{PutsNote};
+ghost use Rattle.heap.specs.Sorting.{AreBlank, PutsNote};
 
 use page::Store;
 use refword::Word;
@@ -31,4 +31,36 @@ fn put_note(lists: &mut Vec<Vec<Word, Global>, Global>, bucket: usize, note: Wor
     let list = &mut lists[bucket];
     list.push(note)?;
     Ok(())
+}
+
+/// Returns empty lists. Fails only if out of memory.
+fn empty_lists(alloc: Global, count: usize) -> Result<Vec<Vec<Word, Global>, Global>, AllocError>
+    ensures { IfOk result (λ lists. AreBlank lists.items count) }
+{
+    let mut lists = Vec::with_capacity(alloc, count)?;
+    for _list in 0..count {
+        lists.push(Vec::new(alloc))?;
+    }
+    Ok(lists)
+}
+
+/// Returns lists of the notes of each of the first `count` groups of 2 to the power of `shift` pages, each in their
+/// order. Fails only if out of memory.
+pub fn sorted_notes(
+    alloc: Global,
+    store: &Store,
+    notes: &[Word],
+    shift: u32,
+    count: usize,
+) -> Result<Vec<Vec<Word, Global>, Global>, AllocError>
+    requires { shift < 32 }
+    ensures { IfOk result (λ lists. AreSorted store.now.words (2 ^ shift) count lists.items notes.now) }
+{
+    let mut lists = empty_lists(alloc, count)?;
+    for index in 0..notes.len() {
+        let note = notes[index];
+        let bucket = bucket_of(store, note, shift);
+        put_note(&mut lists, bucket, note)?;
+    }
+    Ok(lists)
 }
