@@ -1,10 +1,12 @@
 -- Lists that are edited chunk by chunk.
 use Rattle.std.proofs.Common.{◌≡◌, ◌≢◌, ◌⊎◌, inl, inr, ℕ, zero, suc, ◌+◌, ◌-◌, ◌≤◌, ◌<◌, Bool, true, false, List, [], ◌∷◌}
-use Rattle.std.proofs.Common.{length, drop, take, map, get_or, set, nat_le, nat_eq, ◌%◌, Option, Some, None, refl, sym, ◌∙◌, ap, arith, subst}
+use Rattle.std.proofs.Common.{length, drop, take, map, get_or, set, nat_le, nat_eq, ◌%◌, ◌/◌, ◌*◌, filter, cond, Option, Some, None, refl, sym, ◌∙◌, ap, arith, subst}
 use Rattle.std.specs.List.{slice_get}
-use Rattle.std.specs.Prelude.{if◌then◌else◌}
+use Rattle.std.specs.Prelude.{if◌then◌else◌, ◌==◌}
+use Rattle.std.proofs.Math.Nat.{mul-le-mul_right}
+use Rattle.std.proofs.lemmas.Nat.{div-mul-add, div-add-mod'}
 use Rattle.std.proofs.Math.ListN.{length-set}
-use Rattle.std.proofs.lemmas.Bool.{cases_lt, cases_eq}
+use Rattle.std.proofs.lemmas.Bool.{cases_lt, cases_eq, true≢false}
 use Rattle.std.proofs.lemmas.Bool.Decides.{nat_tests}
 use Rattle.std.proofs.lemmas.List.{drop_more, drop_all, get_or-take, get_or-drop, length-take-le, length-drop}
 use Rattle.std.proofs.lemmas.Option.{slice_get_within, get_or_from_slice_get}
@@ -12,7 +14,7 @@ use Rattle.model.specs.States.{Reference, change_at, change_found}
 use Rattle.model.specs.Bits.{put_bit, bit_at}
 use Rattle.model.specs.Holding.{AreRowsOf}
 use Rattle.model.specs.Stores.{StoreState}
-use Rattle.heap.specs.Batches.{AreEmpty, edit_one, edited, todo_edit, mark_edit}
+use Rattle.heap.specs.Batches.{AreEmpty, bucket_of, in_bucket, edit_one, edited, todo_edit, mark_edit}
 
 -- ---- one element
 
@@ -268,3 +270,63 @@ mark_lengths w (Some (a, false) ∷ ns) = ((λ row. length-set row (a % w) true)
 pub edits_keep : (s : StoreState) (rows new : List (List Bool)) (es : List (ℕ × (List Bool → List Bool)))
     → AreRowsOf s rows → KeepLength es → new ≡ edited 0 rows es → AreRowsOf s new
 edits_keep s rows new es r k e = ap (map length) e ∙ edited_lengths 0 rows es k ∙ r
+
+-- ---- notes of one group of pages
+
+zero_div : (n : ℕ) → 0 / n ≡ 0
+zero_div n = grind arith
+
+eq_same : (n : ℕ) → (n == n) ≡ true
+eq_same n = grind (arith, nat_tests)
+
+-- the edits of notes of another group leave an element as it is
+pub bucket_after : {X : Type 0} (w size c i : ℕ) (f : Reference → ℕ × (X → X)) (ns : List Reference) (x : X)
+    → ((n : Reference) → (f n).0 / size ≡ bucket_of w size n) → i / size ≡ c
+    → after_all i (map f (filter (in_bucket w size c) ns)) x ≡ after_all i (map f ns) x
+bucket_after w size c i f [] x at e = refl
+bucket_after {X} w size c i f (n ∷ ns) x at e =
+    by_test (in_bucket w size c n) refl (λ y. bucket_after w size c i f ns y at e)
+  where
+    other : in_bucket w size c n ≡ false → ((f n).0 ≡ i) ⊎ ((f n).0 ≢ i) → nat_eq (f n).0 i ≡ false
+    other z (inl s) = absurd (true≢false (sym (eq_same c)
+        ∙ ap (λ m. m == c) (sym (sym (at n) ∙ ap (λ m. m / size) s ∙ e)) ∙ z))
+    other z (inr d) = not_eq_is (f n).0 i d
+
+    by_test : (b : Bool) → in_bucket w size c n ≡ b
+        → ((y : X) → after_all i (map f (filter (in_bucket w size c) ns)) y ≡ after_all i (map f ns) y)
+        → after_all i (map f (cond b (n ∷ filter (in_bucket w size c) ns) (filter (in_bucket w size c) ns))) x
+        ≡ after_all i (map f ns) (after_if (nat_eq (f n).0 i) (f n).1 x)
+    by_test true z rest = rest (after_if (nat_eq (f n).0 i) (f n).1 x)
+    by_test false z rest =
+        rest x ∙ ap (λ t. after_all i (map f ns) (after_if t (f n).1 x))
+        (sym (other z (cases_eq (f n).0 i)))
+
+pub todo_bucket : (mark : List (List Bool)) (w size : ℕ) (n : Reference)
+    → (todo_edit mark w n).0 / size ≡ bucket_of w size n
+todo_bucket mark w size None = zero_div size
+todo_bucket mark w size (Some (a, true)) = refl
+todo_bucket mark w size (Some (a, false)) = refl
+
+pub mark_bucket : (w size : ℕ) (n : Reference) → (mark_edit w n).0 / size ≡ bucket_of w size n
+mark_bucket w size None = zero_div size
+mark_bucket w size (Some (a, true)) = refl
+mark_bucket w size (Some (a, false)) = refl
+
+-- places of a chunk are in one group
+pub same_group : (start offset i size : ℕ) → start % size ≡ 0 → start + offset ≡ i → offset < size
+    → i / size ≡ start / size
+same_group start offset i size multiple at low =
+    ap (λ n. n / size) (sym at ∙ ap (λ n. n + offset) whole) ∙ div-mul-add (start / size) size offset low
+  where
+    whole : start ≡ start / size * size
+    whole = let back = div-add-mod' start size in omega (arith, back, multiple)
+
+pub group_within : (start end count size : ℕ) → start < end → end ≤ count * size → start / size < count
+group_within start end count size low enough = by_place (cases_lt (start / size) count)
+  where
+    by_place : (start / size < count) ⊎ (count ≤ start / size) → start / size < count
+    by_place (inl l) = l
+    by_place (inr l) =
+        let more : count * size ≤ start / size * size = mul-le-mul_right size l in
+        let back = div-add-mod' start size in
+        absurd (omega (arith, low, enough, more, back))

@@ -1,6 +1,6 @@
 -- Notes are taken in at once.
 use Rattle.std.proofs.Common.{◌≡◌, ◌≢◌, ◌⊎◌, inl, inr, ℕ, zero, suc, ◌+◌, ◌-◌, ◌/◌, ◌%◌, ◌≤◌, ◌<◌, Bool, true, false, List, []}
-use Rattle.std.proofs.Common.{◌∷◌, ◌++◌, length, drop, map, get_or, set, nat_le, Option, Some, None, refl, sym, ◌∙◌, ap, arith, subst}
+use Rattle.std.proofs.Common.{◌∷◌, ◌++◌, length, drop, map, filter, cond, get_or, set, nat_le, Option, Some, None, refl, sym, ◌∙◌, ap, arith, subst}
 use Rattle.std.specs.List.{slice_get}
 use Rattle.std.specs.Prelude.{if◌then◌else◌}
 use Rattle.std.proofs.lemmas.List.{drop_more, drop_all}
@@ -9,7 +9,7 @@ use Rattle.refword.specs.Words.{address_in, mark_in}
 use Rattle.model.specs.Bits.{put_bit, bit_at, with_bit}
 use Rattle.model.specs.States.{Reference, HeapState, change_at, change_found}
 use Rattle.page.proofs.Copied.{same_set}
-use Rattle.heap.specs.Batches.{batch_notes, edit_one, edited, todo_edit, mark_edit, with_notes}
+use Rattle.heap.specs.Batches.{AllSorted, IsSorted, in_bucket, items_in, batch_notes, edit_one, edited, todo_edit, mark_edit, with_notes}
 use Rattle.heap.specs.declared.batch.Batch.{Batch}
 
 -- ---- one note
@@ -68,7 +68,7 @@ marked_none start w xs (Some n) e = absurd (cc)
 pub marked_end : (start w : ℕ) (xs : List (List Bool)) (note : Reference) → true ≡ mark_in note
     → xs ≡ edit_one start xs (mark_edit w note)
 marked_end start w xs None e = sym (edit_none start xs 0)
-marked_end start w xs (Some (b, true)) e = sym (edit_none start xs 0)
+marked_end start w xs (Some (b, true)) e = sym (edit_none start xs (b / w - 1))
 marked_end start w xs (Some (b, false)) e = absurd (cc)
 
 pub marked_mark : (start w : ℕ) (xs ys : List (List Bool)) (note : Reference) (a : ℕ) → Some a ≡ address_in note
@@ -109,18 +109,34 @@ map_both : {X Y : Type 0} (f : X → Y) (xs ys : List X) → map f xs ++ map f y
 map_both f [] ys = refl
 map_both f (x ∷ xs) ys = ap (λ us. f x ∷ us) (map_both f xs ys)
 
-pub batches_next : {X : Type 0} (start : ℕ) (all xs ys : List X) (f : Reference → ℕ × (X → X)) (bs : List Batch) (i : ℕ)
-    (b : Batch)
-    → edited start xs (map f (batch_notes (drop i bs))) ≡ all → IsAt bs i b
-    → ys ≡ edited start xs (map f b.notes.items)
-    → edited start ys (map f (batch_notes (drop (i + 1) bs))) ≡ all
-batches_next start all xs ys f bs i b e at d =
-    ap (λ us. edited start us (map f (batch_notes (drop (i + 1) bs)))) d
-    ∙ edited_both start xs (map f b.notes.items) (map f (batch_notes (drop (i + 1) bs)))
-    ∙ ap (edited start xs) (map_both f b.notes.items (batch_notes (drop (i + 1) bs)))
-    ∙ ap (λ cs. edited start xs (map f (batch_notes cs))) (sym (here bs i b at)) ∙ e
+filter_both : (p : Reference → Bool) (xs ys : List Reference) → filter p xs ++ filter p ys ≡ filter p (xs ++ ys)
+filter_both p [] ys = refl
+filter_both p (x ∷ xs) ys = by_test (p x) (filter_both p xs ys)
+  where
+    by_test : (b : Bool) → filter p xs ++ filter p ys ≡ filter p (xs ++ ys)
+        → cond b (x ∷ filter p xs) (filter p xs) ++ filter p ys ≡ cond b (x ∷ filter p (xs ++ ys)) (filter p (xs ++ ys))
+    by_test true e = ap (λ us. x ∷ us) e
+    by_test false e = e
 
-pub batches_end : {X : Type 0} (start : ℕ) (all xs : List X) (f : Reference → ℕ × (X → X)) (bs : List Batch) (i : ℕ)
-    → edited start xs (map f (batch_notes (drop i bs))) ≡ all → length bs ≤ i → xs ≡ all
-batches_end start all xs f bs i e le =
-    ap (λ cs. edited start xs (map f (batch_notes cs))) (sym (drop_all i bs le)) ∙ e
+pub batches_next : {X : Type 0} (start : ℕ) (all xs ys : List X) (f : Reference → ℕ × (X → X)) (p : Reference → Bool)
+    (bs : List Batch) (i : ℕ) (b : Batch)
+    → edited start xs (map f (filter p (batch_notes (drop i bs)))) ≡ all → IsAt bs i b
+    → ys ≡ edited start xs (map f (filter p b.notes.items))
+    → edited start ys (map f (filter p (batch_notes (drop (i + 1) bs)))) ≡ all
+batches_next start all xs ys f p bs i b e at d =
+    ap (λ us. edited start us (map f (filter p (batch_notes (drop (i + 1) bs))))) d
+    ∙ edited_both start xs (map f (filter p b.notes.items)) (map f (filter p (batch_notes (drop (i + 1) bs))))
+    ∙ ap (edited start xs) (map_both f (filter p b.notes.items) (filter p (batch_notes (drop (i + 1) bs)))
+    ∙ ap (map f) (filter_both p b.notes.items (batch_notes (drop (i + 1) bs))))
+    ∙ ap (λ cs. edited start xs (map f (filter p (batch_notes cs)))) (sym (here bs i b at)) ∙ e
+
+pub batches_end : {X : Type 0} (start : ℕ) (all xs : List X) (f : Reference → ℕ × (X → X)) (p : Reference → Bool)
+    (bs : List Batch) (i : ℕ)
+    → edited start xs (map f (filter p (batch_notes (drop i bs)))) ≡ all → length bs ≤ i → xs ≡ all
+batches_end start all xs f p bs i e le =
+    ap (λ cs. edited start xs (map f (filter p (batch_notes cs)))) (sym (drop_all i bs le)) ∙ e
+
+-- the list of a batch that is sorted
+pub list_sorted : (w size count c i : ℕ) (bs : List Batch) (b : Batch) → AllSorted w size count bs → IsAt bs i b
+    → c < count → items_in (slice_get b.sorted.items c) ≡ filter (in_bucket w size c) b.notes.items
+list_sorted w size count c i bs b s at l = subst (IsSorted w size count) (sym at.1) (s i b at.0) c l

@@ -1,6 +1,6 @@
 -- Batches: references that are written, and notes for the bitmaps, many at once.
 use Rattle.std.specs.Prelude.{◌≡◌, ℕ, ◌-◌, ◌/◌, ◌%◌, Bool, true, false, List, [], ◌∷◌, ◌++◌, Option, Some, None, map}
-use Rattle.std.specs.Prelude.{if◌then◌else◌, nat_le, ◌==◌, ◌<◌, length, get_or, filter}
+use Rattle.std.specs.Prelude.{if◌then◌else◌, nat_le, ◌==◌, ◌<◌, length, get_or, filter, slice_get}
 use Rattle.refword.specs.Words.{bits_of}
 use Rattle.refword.specs.declared.word.Word.{Word}
 use Rattle.std.specs.Global.{Vec}
@@ -73,7 +73,7 @@ todo_edit mark w (Some (a, false)) = (a / w - 1, λ row. if bit_at mark w a then
 -- what a note does to the bitmaps of marked objects
 abbrev pub mark_edit : ℕ → Reference → ℕ × (List Bool → List Bool)
 mark_edit w None = (0, λ row. row)
-mark_edit w (Some (a, true)) = (0, λ row. row)
+mark_edit w (Some (a, true)) = (a / w - 1, λ row. row)
 mark_edit w (Some (a, false)) = (a / w - 1, put_bit (a % w) true)
 
 -- the heap after notes are taken in at once
@@ -104,3 +104,17 @@ pub record AreSorted (w size count : ℕ) (lists : List (Vec Word)) (notes : Lis
   pub many : length lists ≡ count
   pub each : (c : ℕ) (d : Vec Word) → c < count
       → (get_or lists c d).items ≡ filter (in_bucket w size c) notes
+
+-- the notes of a list that may be missing
+abbrev pub items_in : Option (Vec Word) → List Reference
+items_in None = []
+items_in (Some list) = list.items
+
+-- a batch has its notes of each of the first `count` groups of `size` pages in a list of their own
+abbrev pub IsSorted : ℕ → ℕ → ℕ → Batch → Type 0
+IsSorted w size count b = (c : ℕ) → c < count
+    → items_in (slice_get b.sorted.items c) ≡ filter (in_bucket w size c) b.notes.items
+
+-- each of several batches has
+abbrev pub AllSorted : ℕ → ℕ → ℕ → List Batch → Type 0
+AllSorted w size count bs = (i : ℕ) (d : Batch) → i < length bs → IsSorted w size count (get_or bs i d)

@@ -7,7 +7,7 @@ mod globals;
 mod heap;
 mod sorting;
 
-pub use batch::Batch;
+pub use batch::{Batch, Groups};
 pub use fault::NewFault;
 pub use heap::Heap;
 pub use heap::at_once::found::FoundObject;
@@ -17,4 +17,5 @@ pub use heap::opening::PageMemory;
 pub use heap::references::read_reference;
 pub use markbits::{IndexedRows, Row, Rows};
 pub use model::{Config, ConfigFault, Refusal, Tally};
+pub use sorting::sorted_notes;
 pub use thread_records::Thread;
