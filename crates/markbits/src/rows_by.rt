@@ -1,6 +1,6 @@
 //! Bitmaps that are changed on threads.
 
-ghost use Rattle.std.specs.Prelude.{◌≡◌, ◌≤◌, ◌<◌, length, take, drop, map};
+ghost use Rattle.std.specs.Prelude.{◌≡◌, ◌≤◌, ◌<◌, ◌^◌, length, take, drop, map};
 ghost use Rattle.markbits.specs.Indexing.{has_bits};
 ghost use Rattle.std.specs.Fork.{AcceptsChunksMut, AllInChunks};
 
@@ -12,7 +12,8 @@ use std::thread::{Threads, for_each_chunk_mut};
 impl Rows {
     /// Returns the number of bitmaps, with those that are empty.
     pub fn len(&self) -> usize
-        ensures { result ≡ length self.now }
+        ensures value { result ≡ length self.now }
+        ensures range { result < 2 ^ 63 }
     {
         self.rows.len()
     }

@@ -6,4 +6,5 @@ pub mod Written
 pub mod Parts
 pub mod Waved
 pub mod Passes
+pub mod Sorted
 pub mod Done

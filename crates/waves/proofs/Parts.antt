@@ -2,6 +2,8 @@
 use Rattle.std.proofs.Common.{◌≡◌, ℕ, zero, suc, ◌+◌, ◌*◌, ◌≤◌, ◌<◌, true, List, [], ◌∷◌, ◌++◌, get_or, length}
 use Rattle.std.proofs.Common.{refl, sym, ◌∙◌, ap, arith, subst}
 use Rattle.std.proofs.Math.Nat.{mul-le-mul_right}
+use Rattle.std.specs.Global.{Vec}
+use Rattle.refword.specs.declared.word.Word.{Word}
 use Rattle.model.specs.Scans.{is_free_todo}
 use Rattle.model.specs.States.{Reference, HeapState}
 use Rattle.heap.specs.declared.batch.Batch.{Batch}
@@ -20,6 +22,11 @@ none_found h from to f objects words notes le = record {
   words = words ∙ ap (all_words h) (sym objects);
   notes = notes ∙ ap (all_notes h) (sym objects);
 }
+
+-- the same, with other sorted notes
+pub sorted_too : (h : HeapState) (from to : ℕ) (f : Batch) (lists : Vec (Vec Word)) → Finds h from to f
+    → Finds h from to (record f { sorted = lists })
+sorted_too h from to f lists k = record { rises = k.rises; marked = k.marked; words = k.words; notes = k.notes }
 
 pub starts_rise : (h : HeapState) (m n : ℕ) → m ≤ n → start_of h m ≤ start_of h n
 starts_rise h m n le = mul-le-mul_right h.store.words (omega (arith, le))

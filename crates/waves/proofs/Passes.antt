@@ -208,7 +208,7 @@ passes w first mark todo (None ∷ ns) b k =
 passes w first mark todo (Some (a, true) ∷ ns) b k =
     passes w first mark (with_bit todo w a false) ns (after_end w a first mark todo b k.0) k.1
     ∙ (λ i. (
-      edited 0 (sym (edit_none 0 mark 0) i) (map (mark_edit w) ns),
+      edited 0 (sym (edit_none 0 mark (a / w - 1)) i) (map (mark_edit w) ns),
       edited 0 (sym (edit_zero todo (a / w - 1) (put_bit (a % w) false)) i) (map (todo_edit first w) ns),
     ))
 passes w first mark todo (Some (a, false) ∷ ns) b k =

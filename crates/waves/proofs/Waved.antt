@@ -1,5 +1,7 @@
 -- What was found is drained, one wave after the other.
-use Rattle.std.proofs.Common.{◌≡◌, ℕ, ◌+◌, ◌-◌, ◌≤◌, List, length, refl, sym, ◌∙◌, ap, arith, subst}
+use Rattle.std.proofs.Common.{◌≡◌, ℕ, ◌+◌, ◌-◌, ◌*◌, ◌/◌, ◌≤◌, ◌<◌, List, length, refl, sym, ◌∙◌, ap, arith, subst}
+use Rattle.std.proofs.Math.Nat.{lt-div-mul-add, div-le_self}
+use Rattle.model.proofs.Tables.{rows_many}
 use Rattle.model.specs.Holding.{IsHeap}
 use Rattle.model.specs.Owning.{IsStore}
 use Rattle.model.specs.States.{Reference, HeapState}
@@ -65,3 +67,31 @@ parts_applied h g k from fs p e d =
     ∙ ap (λ (x : HeapState). record x { store = all_written h.store (batch_words fs) })
     (noted_at_once h (batch_objects fs) (batch_notes fs) p.marked p.notes)
     ∙ written_then h (batch_words fs) (batch_notes fs)
+
+-- what stays when references are written
+pub words_stay : (h g : HeapState) (vs : List (ℕ × Reference)) → g ≡ applied h vs [] → g.store.words ≡ h.store.words
+unfolding applied
+words_stay h g vs e = ap (λ (x : HeapState). x.store.words) e ∙ written_words h.store vs
+
+pub grey_stay : (h g : HeapState) (vs : List (ℕ × Reference)) → g ≡ applied h vs [] → g.todo ≡ h.todo
+unfolding applied
+grey_stay h g vs e = ap (λ (x : HeapState). x.todo) e
+
+pub marked_stay : (h g : HeapState) (vs : List (ℕ × Reference)) → g ≡ applied h vs [] → g.mark ≡ h.mark
+unfolding applied
+marked_stay h g vs e = ap (λ (x : HeapState). x.mark) e
+
+-- groups of pages, as many as are needed
+pub enough_groups : (n pages size : ℕ) → n ≤ pages → 0 < size → n ≤ (pages / size + 1) * size
+enough_groups n pages size le low =
+    let l = lt-div-mul-add {a = pages} {b = size} low in
+    omega (arith, le, l, more (pages / size) size)
+  where
+    more : (a b : ℕ) → (a + 1) * b ≡ a * b + b
+    more a b = grind arith
+
+pub as_many : (h : HeapState) → IsHeap h → length h.mark ≡ length h.todo
+as_many h i = rows_many h.store h.mark i.mark ∙ sym (rows_many h.store h.todo i.todo)
+
+pub few_groups : (pages size : ℕ) → pages < 9223372036854775808 → pages / size + 1 < 18446744073709551616
+few_groups pages size l = let d = div-le_self pages size in omega (arith, l, d)

@@ -1,10 +1,10 @@
 //! Writes what a wave has found.
 
-ghost use Rattle.std.specs.Prelude.{◌≡◌, []};
+ghost use Rattle.std.specs.Prelude.{◌≡◌, ◌≤◌, ◌<◌, ◌*◌, ◌^◌, length, []};
 ghost use Rattle.waves.specs.Finds.{PartsFound, start_of};
-ghost use Rattle.heap.specs.Batches.{applied, batch_words, batch_notes};
+ghost use Rattle.heap.specs.Batches.{AllSorted, applied, batch_words, batch_notes};
 
-use heap::{Batch, Heap, RawCollectorEdits};
+use heap::{Batch, Groups, Heap, RawCollectorEdits};
 use refword::Word;
 use std::thread::Threads;
 
@@ -28,16 +28,20 @@ fn write_parts(heap: &mut Heap, parts: &[Batch])
     }
 }
 
-/// Writes what parts have found, and takes in their notes, in about `count` parts on threads.
+/// Writes what parts have found, and takes in their notes, each group of pages on a thread of its own.
 pub(crate) fn apply_parts<R: Threads + Sync>(
     rt: &R,
     heap: &mut Heap,
     parts: &[Batch],
-    count: usize,
+    groups: Groups,
 )
-    requires { PartsFound heap.old (start_of heap.old 0) parts.now }
+    requires found { PartsFound heap.old (start_of heap.old 0) parts.now }
+    requires small { groups.shift < 32 }
+    requires grey { length heap.old.todo ≤ groups.count * 2 ^ groups.shift }
+    requires marked { length heap.old.mark ≤ groups.count * 2 ^ groups.shift }
+    requires sorted { AllSorted heap.old.store.words (2 ^ groups.shift) groups.count parts.now }
     ensures { heap.new ≡ applied heap.old (batch_words parts.now) (batch_notes parts.now) }
 {
     write_parts(heap, parts);
-    heap.raw_note_by(rt, parts, count);
+    heap.raw_note_by(rt, parts, groups);
 }

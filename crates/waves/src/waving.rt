@@ -1,13 +1,13 @@
 //! Waves, and drains that use them.
 
-ghost use Rattle.std.specs.Prelude.{◌≡◌, ◌≤◌, ◌<◌, true, false, None, length};
+ghost use Rattle.std.specs.Prelude.{◌≡◌, ◌≤◌, ◌<◌, ◌*◌, ◌^◌, true, false, None, length};
 ghost use Rattle.model.specs.Scans.{next_todo, next_drain};
 ghost use Rattle.drains.specs.Drains.{IsReady, IsDrained, ObjectsDone, NoneTodo, KeepsPlain};
 
 use crate::applying::apply_parts;
 use crate::parting::{count_parts, find_parts};
 use drains::{Portion, is_alone, mark_globals, scan_objects};
-use heap::Heap;
+use heap::{Groups, Heap};
 use std::thread::Threads;
 
 /// With fewer grey objects a wave isn't worth its threads.
@@ -41,6 +41,21 @@ fn extent_of(heap: &Heap) -> Extent {
     extent
 }
 
+/// Returns the groups of 2 to the power of `shift` pages that have a record.
+fn groups_of(heap: &Heap, shift: u32) -> Groups
+    requires { shift < 32 }
+    ensures small { result.shift < 32 }
+    ensures grey { length heap.now.todo ≤ result.count * 2 ^ result.shift }
+    ensures marked { length heap.now.mark ≤ result.count * 2 ^ result.shift }
+{
+    heap.law();
+    let pages = heap.todo().rows().len();
+    Groups {
+        shift,
+        count: (pages >> shift) + 1,
+    }
+}
+
 /// Scans grey objects of `parts` times `size` pages at once, the parts on threads of their own, and returns how many:
 /// none if they are more than `most`, if a worker has an object, or if out of memory. Nothing is left to be copied.
 fn wave<R: Threads + Sync>(
@@ -59,13 +74,14 @@ fn wave<R: Threads + Sync>(
     if !is_alone(heap) || parts.checked_mul(size).is_none() {
         return 0;
     }
-    let Ok(found) = find_parts(rt, heap, parts, size) else {
+    let groups = groups_of(heap, size.max(1).ilog2().min(31));
+    let Ok(found) = find_parts(rt, heap, parts, size, groups) else {
         return 0;
     };
     let Some(count) = count_parts(&found, most) else {
         return 0;
     };
-    apply_parts(rt, heap, &found, parts);
+    apply_parts(rt, heap, &found, groups);
     count
 }
 

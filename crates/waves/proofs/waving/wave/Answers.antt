@@ -10,6 +10,6 @@ returns-clause-done g c =
     let h = c.args.heap.now in
     parts_drain h c.apply_parts.new.heap c.args.worker c.in-Some.count (start_of h 0) c.in-Ok.found.items
     (record { scan = c.requires.scan; none = c.requires.none; worker = c.requires.worker })
-    c.law.ensures.store c.law.ensures.heap c.in-Ok.ensures
+    c.law.ensures.store c.law.ensures.heap c.in-Ok.ensures.found
     (c.in-Some.ensures.count ∙ ap (λ fs. length (batch_objects fs)) c.deref.ensures.value)
     (c.apply_parts.ensures ∙ ap (λ fs. applied h (batch_words fs) (batch_notes fs)) c.deref-2.ensures.value)
