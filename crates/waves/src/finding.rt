@@ -3,7 +3,8 @@
 ghost use Rattle.std.specs.Prelude.{◌≡◌, ◌≤◌, ◌<◌, ◌+◌, ◌*◌, ◌^◌, true, false, not, IfOk, slice_get, length, Some};
 ghost use Rattle.std.specs.List.{list_any};
 ghost use Rattle.std.specs.Option.{is_some};
-ghost use Rattle.model.specs.References.{field_address};
+ghost use Rattle.model.specs.Marks.{marked_word};
+ghost use Rattle.model.specs.References.{field_address, read_reference};
 ghost use Rattle.model.specs.Scans.{is_free_todo};
 ghost use Rattle.model.specs.Bits.{bit_at, of_page};
 ghost use Rattle.drains.specs.Drains.{refs_at};
@@ -12,6 +13,23 @@ ghost use Rattle.waves.specs.Finds.{AddsField, AddsFields, Finds, FindsMore};
 use heap::{Batch, Heap, Row, read_reference};
 use refword::{Addr, Word};
 use std::alloc::AllocError;
+
+/// Returns the word that marking leaves for a reference's bits. An object without an entry in a forwarding table, the
+/// usual case, is found by one bit.
+#[inline(always)]
+#[tactic(auto, unfolding(model::specs::Marks::marked_word, model::specs::Marks::resolve))]
+fn marked_bits(heap: &Heap, bits: u64) -> Word
+    ensures { result ≡ marked_word heap.now (read_reference bits) }
+{
+    let word = read_reference(bits);
+    let Some(address) = word.addr() else {
+        return word;
+    };
+    if heap.has_entry(address) {
+        return heap.marked_word(word);
+    }
+    Word::of(address, heap.nmt())
+}
 
 /// Finds what the mark of a reference writes and notes: nothing, if its bits are 0. Fails only if out of memory.
 #[inline(always)]
@@ -31,7 +49,7 @@ fn find_field(
     if bits == 0 {
         return Ok(());
     }
-    let word = heap.marked_word(read_reference(bits));
+    let word = marked_bits(heap, bits);
     found.words.push((address.number() + ahead, word))?;
     if let Some(target) = word.addr() {
         found.notes.push(Word::of(target, false))?;
