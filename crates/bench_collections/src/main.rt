@@ -7,6 +7,7 @@
 //! |---|---|
 //! | `mark-SHAPE COUNT WORDS HEAPS TIMES` | makes a shape in each of HEAPS heaps, and marks it TIMES times |
 //! | `collect-SHAPE COUNT WORDS HEAPS TIMES` | the same with TIMES complete collections |
+//! | `waves-SHAPE COUNT WORDS THREADS TIMES` | makes a shape, and marks it TIMES times on THREADS threads, or with 0 on one as `mark-SHAPE` does; prints how often, and after `timed` nanoseconds |
 //! | `keep WORDS COUNT` | allocates COUNT objects, each of which becomes the head of a list |
 //! | `drop WORDS COUNT` | allocates COUNT garbage objects, and collects meanwhile |
 //!
