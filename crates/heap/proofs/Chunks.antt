@@ -1,6 +1,6 @@
 -- Lists that are edited chunk by chunk.
 use Rattle.std.proofs.Common.{◌≡◌, ◌≢◌, ◌⊎◌, inl, inr, ℕ, zero, suc, ◌+◌, ◌-◌, ◌≤◌, ◌<◌, Bool, true, false, List, [], ◌∷◌}
-use Rattle.std.proofs.Common.{length, drop, take, map, get_or, set, nat_le, nat_eq, ◌%◌, ◌/◌, ◌*◌, filter, cond, Option, Some, None, refl, sym, ◌∙◌, ap, arith, subst}
+use Rattle.std.proofs.Common.{length, drop, take, map, get_or, nat_le, nat_eq, ◌%◌, ◌/◌, ◌*◌, filter, cond, Option, Some, None, refl, sym, ◌∙◌, ap, arith, subst}
 use Rattle.std.specs.List.{slice_get}
 use Rattle.std.specs.Prelude.{if◌then◌else◌, ◌==◌}
 use Rattle.std.proofs.Math.Nat.{mul-le-mul_right}
@@ -183,7 +183,7 @@ rows_edited old new end es many within rest empty keep low =
         let k : ℕ = i - end in
         let at : end + k ≡ i = omega (arith, a) in
         let none : get_or old i d ≡ [] = ap (λ n. get_or old n d) (sym at) ∙ sym (get_or-drop end old k d)
-            ∙ empty_at (drop end old) k d empty (omega (arith, l, a, length-drop end old)) in
+        ∙ empty_at (drop end old) k d empty (omega (arith, l, a, length-drop end old)) in
         ap (λ n. get_or new n d) (sym at) ∙ sym (get_or-drop end new k d) ∙ ap (λ us. get_or us k d) rest
         ∙ get_or-drop end old k d ∙ ap (λ n. get_or old n d) at
         ∙ none ∙ sym (empty_after i es keep) ∙ sym (ap (after_all i es) none)

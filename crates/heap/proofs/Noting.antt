@@ -1,15 +1,15 @@
 -- Notes are taken in at once.
-use Rattle.std.proofs.Common.{◌≡◌, ◌≢◌, ◌⊎◌, inl, inr, ℕ, zero, suc, ◌+◌, ◌-◌, ◌/◌, ◌%◌, ◌≤◌, ◌<◌, Bool, true, false, List, []}
-use Rattle.std.proofs.Common.{◌∷◌, ◌++◌, length, drop, map, filter, cond, get_or, set, nat_le, Option, Some, None, refl, sym, ◌∙◌, ap, arith, subst}
+use Rattle.std.proofs.Common.{◌≡◌, ℕ, ◌+◌, ◌-◌, ◌/◌, ◌%◌, ◌≤◌, ◌<◌, Bool, true, false, List, []}
+use Rattle.std.proofs.Common.{◌∷◌, ◌++◌, length, drop, map, filter, cond, get_or, nat_le, Option, Some, None, refl, sym, ◌∙◌, ap, subst}
 use Rattle.std.specs.List.{slice_get}
 use Rattle.std.specs.Prelude.{if◌then◌else◌}
 use Rattle.std.proofs.lemmas.List.{drop_more, drop_all}
 use Rattle.std.proofs.lemmas.Option.{same_Some}
 use Rattle.refword.specs.Words.{address_in, mark_in}
-use Rattle.model.specs.Bits.{put_bit, bit_at, with_bit}
-use Rattle.model.specs.States.{Reference, HeapState, change_at, change_found}
+use Rattle.model.specs.Bits.{put_bit, bit_at}
+use Rattle.model.specs.States.{Reference, change_at, change_found}
 use Rattle.page.proofs.Copied.{same_set}
-use Rattle.heap.specs.Batches.{AllSorted, IsSorted, in_bucket, items_in, batch_notes, edit_one, edited, todo_edit, mark_edit, with_notes}
+use Rattle.heap.specs.Batches.{AllSorted, IsSorted, in_bucket, items_in, batch_notes, edit_one, edited, todo_edit, mark_edit}
 use Rattle.heap.specs.declared.batch.Batch.{Batch}
 
 -- ---- one note

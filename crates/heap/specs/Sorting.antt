@@ -1,5 +1,5 @@
 -- Notes are sorted one after the other.
-use Rattle.std.specs.Prelude.{◌≡◌, ℕ, ◌<◌, ◌==◌, ◌++◌, ◌∷◌, [], Bool, List, length, get_or, if◌then◌else◌}
+use Rattle.std.specs.Prelude.{◌≡◌, ℕ, ◌<◌, ◌==◌, ◌++◌, ◌∷◌, [], List, length, get_or, if◌then◌else◌}
 use Rattle.std.specs.Global.{Vec}
 use Rattle.refword.specs.declared.word.Word.{Word}
 use Rattle.model.specs.States.{Reference}

@@ -22,7 +22,11 @@ fn bucket_of(store: &Store, note: Word, shift: u32) -> usize
 
 /// Adds a note to one of some lists, if it exists. Fails only if out of memory.
 #[inline(always)]
-fn put_note(lists: &mut Vec<Vec<Word, Global>, Global>, bucket: usize, note: Word) -> Result<(), AllocError>
+fn put_note(
+    lists: &mut Vec<Vec<Word, Global>, Global>,
+    bucket: usize,
+    note: Word,
+) -> Result<(), AllocError>
     ensures { IfOk result (λ _. PutsNote lists.old.items bucket note lists.new.items) }
 {
     if bucket >= lists.len() {

@@ -1,11 +1,11 @@
 -- Bitmaps that are cleared at once.
-use Rattle.std.proofs.Common.{◌≡◌, inl, inr, ℕ, zero, suc, ◌+◌, ◌-◌, ◌*◌, ◌/◌, ◌≤◌, ◌<◌, Bool, true, false, List, [], ◌∷◌}
+use Rattle.std.proofs.Common.{◌≡◌, inl, inr, ℕ, zero, suc, ◌+◌, ◌-◌, ◌≤◌, ◌<◌, Bool, false, List, [], ◌∷◌}
 use Rattle.std.proofs.Common.{◌++◌, length, replicate, take, set, get_or, count_by, Option, Some, None, refl, sym, ◌∙◌, ap}
 use Rattle.std.proofs.Common.{cond, arith}
 use Rattle.std.proofs.lemmas.List.{length-replicate, length-append, append-nil}
 use Rattle.std.proofs.lemmas.List.Sums.{sum_by-append, sum_by-cons}
 use Rattle.std.proofs.Math.ListN.{length-set}
-use Rattle.model.specs.Bits.{blank_row, put_bit}
+use Rattle.model.specs.Bits.{blank_row}
 use Rattle.markbits.specs.Cleared.{padded, AreThere}
 use Rattle.markbits.specs.Ranks.{rank_of}
 use Rattle.markbits.specs.Words.{set_count, IsNextPlace}

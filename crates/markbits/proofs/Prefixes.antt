@@ -1,5 +1,5 @@
 -- The first elements of a list that were changed, and the rest.
-use Rattle.std.proofs.Common.{◌≡◌, ℕ, zero, suc, ◌+◌, ◌≤◌, List, [], ◌∷◌, ◌++◌, length, take, refl, sym, ◌∙◌, ap, arith}
+use Rattle.std.proofs.Common.{◌≡◌, ℕ, zero, suc, ◌≤◌, List, [], ◌∷◌, ◌++◌, length, take, refl, ap, arith}
 
 pub front_again : {X : Type 0} (n m : ℕ) (a b rest : List X) → length a ≡ n → n ≤ m
     → take n (take m ((a ++ b) ++ rest)) ≡ a

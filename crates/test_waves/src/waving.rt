@@ -15,14 +15,24 @@ fn all() -> u64 {
 /// Both heaps have the same words, marks and grey objects.
 fn are_same(rt: &impl Abort, one: &Heap, other: &Heap) {
     for page in 1..=one.memory().page_count() {
-        same_at(rt, page, one.memory().words(page), other.memory().words(page));
+        same_at(
+            rt,
+            page,
+            one.memory().words(page),
+            other.memory().words(page),
+        );
     }
     same(rt, one.mark().count(), other.mark().count());
     same(rt, one.todo().is_empty(), other.todo().is_empty());
 }
 
 /// A heap is marked by one thread, and another on several.
-fn marks<R: Abort + Threads + Sync>(rt: &R, mut one: Heap, mut other: Heap, threads: u32) -> Result<(), Fail> {
+fn marks<R: Abort + Threads + Sync>(
+    rt: &R,
+    mut one: Heap,
+    mut other: Heap,
+    threads: u32,
+) -> Result<(), Fail> {
     fill(&mut one)?;
     fill(&mut other)?;
     one.begin()?;

@@ -1,14 +1,14 @@
 -- What is added to what was found.
-use Rattle.std.proofs.Common.{◌≡◌, ℕ, zero, suc, ◌+◌, ◌-◌, ◌≤◌, ◌<◌, true, false, Bool, List, [], ◌∷◌, ◌++◌}
-use Rattle.std.proofs.Common.{Option, Some, None, refl, sym, ◌∙◌, ap, arith, subst}
+use Rattle.std.proofs.Common.{◌≡◌, ℕ, suc, ◌+◌, ◌-◌, ◌≤◌, true, List, [], ◌∷◌, ◌++◌}
+use Rattle.std.proofs.Common.{Some, refl, sym, ◌∙◌, ap, arith, subst}
 use Rattle.model.specs.Bits.{bit_at}
 use Rattle.model.specs.References.{field_address}
 use Rattle.model.specs.Scans.{is_free_todo}
-use Rattle.model.specs.States.{Reference, HeapState}
+use Rattle.model.specs.States.{HeapState}
 use Rattle.model.specs.Stores.{word_at}
 use Rattle.drains.specs.Drains.{refs_at}
 use Rattle.heap.specs.declared.batch.Batch.{Batch}
-use Rattle.waves.specs.Finds.{AreMarked, Rises, Finds, FindsMore, AddsField, AddsFields}
+use Rattle.waves.specs.Finds.{AreMarked, Rises, FindsMore, AddsField, AddsFields}
 use Rattle.waves.specs.Waves.{words_for, notes_for, words_from, notes_from, words_of, notes_of, all_words, all_notes}
 
 -- ---- lists

@@ -1,6 +1,6 @@
 -- Objects that a wave scans are drained.
-use Rattle.std.proofs.Common.{◌≡◌, ◌≢◌, ◌⊎◌, inl, inr, ℕ, zero, suc, ◌+◌, ◌-◌, ◌/◌, ◌%◌, ◌≤◌, ◌<◌, ◌&&◌, not, true, false, Bool}
-use Rattle.std.proofs.Common.{List, [], ◌∷◌, ◌++◌, get_or, set, length, Option, Some, None, refl, sym, ◌∙◌, ap, arith, subst}
+use Rattle.std.proofs.Common.{◌≡◌, ◌≢◌, ℕ, zero, suc, ◌+◌, ◌-◌, ◌/◌, ◌%◌, ◌≤◌, ◌<◌, ◌&&◌, not, true, false, Bool}
+use Rattle.std.proofs.Common.{List, [], ◌∷◌, get_or, set, length, Option, Some, None, refl, sym, ◌∙◌, ap, arith, subst}
 use Rattle.std.specs.List.{slice_get, list_any}
 use Rattle.std.specs.Prelude.{if◌then◌else◌}
 use Rattle.std.proofs.lemmas.Bool.{and_parts}
@@ -11,8 +11,7 @@ use Rattle.model.specs.Owning.{IsStore}
 use Rattle.model.specs.References.{field_address}
 use Rattle.model.specs.Scans.{is_scan_of, is_taken, is_free_todo, with_marked_place, reference_in}
 use Rattle.model.specs.States.{Reference, HeapState, change_at, change_found}
-use Rattle.model.specs.Stores.{StoreState, word_at, with_word, with_words}
-use Rattle.heap.specs.Marking.{bit_in}
+use Rattle.model.specs.Stores.{word_at, with_word, with_words}
 use Rattle.heap.proofs.Marking.{marks_keep, bit_keeps}
 use Rattle.page.proofs.Untouched.{parted}
 use Rattle.drains.specs.Drains.{refs_at, marked_field, marked_fields, without_todo, scanned, IsReady, ObjectsDone}
@@ -22,7 +21,7 @@ use Rattle.drains.proofs.Waiting.{free_page}
 use Rattle.drains.proofs.Ended.{objects_next}
 use Rattle.waves.specs.Finds.{Rises}
 use Rattle.waves.specs.Waves.{all_scanned, AreAbove, AreApart, waved}
-use Rattle.waves.proofs.Reading.{Reads, fields_read, scan_reads, refs_same}
+use Rattle.waves.proofs.Reading.{fields_read, scan_reads, refs_same}
 use Rattle.waves.proofs.Folding.{scans_are}
 
 -- ---- bits
@@ -127,7 +126,7 @@ unfolding scanned without_todo
 scanned_heap h w a s i r =
     let g : HeapState = marked_fields h a 0 (refs_at h a) in
     let m : MayScan g w = fields_keep h w a 0 (refs_at h a)
-        (record { scan = r.scan; none = r.none; worker = r.worker; store = s; heap = i }) in
+    (record { scan = r.scan; none = r.none; worker = r.worker; store = s; heap = i }) in
     marks_keep g g.live g.mark (with_bit g.todo g.store.words a false) m.heap m.heap.live m.heap.mark
     (bit_keeps g.store g.todo (with_bit g.todo g.store.words a false) g.store.words a false m.heap.todo refl)
 
@@ -136,8 +135,7 @@ rises_still : (h : HeapState) (a from to : ℕ) (xs : List ℕ) → IsStore h.st
 rises_still h a from to [] s free le k = k
 rises_still h a from to (b ∷ xs) s free le k =
     let same : refs_at (scanned h a) b ≡ refs_at h b =
-        refs_same (a + 1 + refs_at h a) h (scanned h a) b (scan_reads h a s) (omega (arith, le, k.0)) in
-    (
+    refs_same (a + 1 + refs_at h a) h (scanned h a) b (scan_reads h a s) (omega (arith, le, k.0)) in (
       k.0,
       free_still h a b s free k.1 (λ e. absurd (omega (arith, e, le, k.0))),
       subst (λ n. Rises (scanned h a) (b + n + 1) to xs) (sym same)
@@ -150,8 +148,8 @@ scans_done f h w n from to [] d s i k = subst (λ m. ObjectsDone f w m h) (omega
 scans_done f h w n from to (a ∷ xs) d s i k =
     let one = objects_next f h (scanned h a) w n a d s i k.1 refl in
     let rest = scans_done f (scanned h a) w (n + 1) (a + refs_at h a + 1) to xs one
-        ((scan_reads h a s).store s) (scanned_heap h w a s i d.drained.ready)
-        (rises_still h a (a + refs_at h a + 1) to xs s k.1 (omega arith) k.2) in
+    ((scan_reads h a s).store s) (scanned_heap h w a s i d.drained.ready)
+    (rises_still h a (a + refs_at h a + 1) to xs s k.1 (omega arith) k.2) in
     subst (λ m. ObjectsDone f w m (all_scanned (scanned h a) xs)) (omega arith) rest
 
 -- what rises is apart

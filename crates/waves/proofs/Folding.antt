@@ -1,23 +1,21 @@
 -- Objects that are apart are scanned at once.
-use Rattle.std.proofs.Common.{◌≡◌, ◌≢◌, ℕ, zero, suc, ◌+◌, ◌≤◌, ◌<◌, true, false, Bool, List, [], ◌∷◌, ◌++◌}
+use Rattle.std.proofs.Common.{◌≡◌, ℕ, zero, suc, ◌+◌, true, Bool, List, [], ◌∷◌, ◌++◌}
 use Rattle.std.proofs.Common.{Option, Some, None, refl, sym, ◌∙◌, ap, arith}
 use Rattle.refword.specs.Words.{bits_of}
-use Rattle.model.specs.Bits.{bit_at, with_bit}
-use Rattle.model.specs.Marks.{with_mark, marked_word, resolve}
+use Rattle.model.specs.Marks.{with_mark, marked_word}
 use Rattle.model.specs.Owning.{IsStore}
 use Rattle.model.specs.References.{field_address, read_reference}
 use Rattle.model.specs.Scans.{with_marked_place, reference_in}
 use Rattle.model.specs.States.{Reference, HeapState}
 use Rattle.model.specs.Stores.{StoreState, word_at, with_word, with_words}
 use Rattle.drains.specs.Drains.{refs_at, marked_field, marked_fields, without_todo, scanned}
-use Rattle.drains.specs.Waiting.{all_noted}
 use Rattle.drains.proofs.Blanks.{field_of_nothing, field_of_blank}
 use Rattle.drains.proofs.Scanned.{field_behind}
 use Rattle.drains.proofs.Waiting.{none_noted}
 use Rattle.heap.specs.Batches.{noted_in, all_noted_in, all_written, applied}
 use Rattle.waves.specs.Waves.{words_for, note_of, notes_for}
 use Rattle.waves.specs.Waves.{words_from, notes_from, words_of, notes_of, all_words, all_notes, waved, all_scanned}
-use Rattle.waves.specs.Waves.{AreAbove, AreApart}
+use Rattle.waves.specs.Waves.{AreApart}
 use Rattle.waves.proofs.Reading.{Reads, field_reads, scan_reads, words_from_same, notes_from_same, all_words_same}
 use Rattle.waves.proofs.Reading.{all_notes_same, apart_same}
 
@@ -44,8 +42,8 @@ unfolding applied
 applied_both h vs us ns ms =
     let stores = written_both h.store vs us in
     let rows = ap (λ (w : ℕ). all_noted_in w (all_noted_in h.store.words (h.mark, h.todo) ns) ms)
-        (written_words h.store vs)
-        ∙ noted_both h.store.words (h.mark, h.todo) ns ms in
+    (written_words h.store vs)
+    ∙ noted_both h.store.words (h.mark, h.todo) ns ms in
     λ i. record h { store = stores i; mark = (rows i).0; todo = (rows i).1 }
 
 -- ---- one field

@@ -1,5 +1,5 @@
 -- Grey objects are found page by page.
-use Rattle.std.proofs.Common.{◌≡◌, ◌≢◌, ℕ, zero, suc, ◌+◌, ◌-◌, ◌*◌, ◌/◌, ◌%◌, ◌≤◌, ◌<◌, ◌&&◌, not, true, false, Bool}
+use Rattle.std.proofs.Common.{◌≡◌, ℕ, suc, ◌+◌, ◌*◌, ◌%◌, ◌≤◌, ◌<◌, ◌&&◌, not, true, false, Bool}
 use Rattle.std.proofs.Common.{List, [], ◌∷◌, get_or, is_some, Option, Some, None, refl, sym, ◌∙◌, ap, arith, subst}
 use Rattle.std.specs.List.{slice_get, list_any}
 use Rattle.std.specs.Prelude.{slice_index_or}
@@ -11,7 +11,7 @@ use Rattle.model.specs.Bits.{of_page, bit_at, bit_on}
 use Rattle.model.specs.Scans.{is_scan_of, is_taken, is_free_todo}
 use Rattle.model.specs.States.{HeapState}
 use Rattle.heap.specs.declared.batch.Batch.{Batch}
-use Rattle.waves.specs.Finds.{Finds, FindsMore}
+use Rattle.waves.specs.Finds.{FindsMore}
 use Rattle.waves.proofs.Adding.{more_none, more_then}
 
 both : (a b : Bool) → a ≡ true → b ≡ true → (a && b) ≡ true

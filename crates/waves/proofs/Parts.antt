@@ -1,14 +1,13 @@
 -- What the parts of a wave have found.
-use Rattle.std.proofs.Common.{◌≡◌, ℕ, zero, suc, ◌+◌, ◌*◌, ◌≤◌, ◌<◌, true, List, [], ◌∷◌, ◌++◌, get_or, length}
+use Rattle.std.proofs.Common.{◌≡◌, ℕ, zero, suc, ◌+◌, ◌*◌, ◌≤◌, ◌<◌, List, [], ◌∷◌, ◌++◌, get_or, length}
 use Rattle.std.proofs.Common.{refl, sym, ◌∙◌, ap, arith, subst}
 use Rattle.std.proofs.Math.Nat.{mul-le-mul_right}
 use Rattle.std.specs.Global.{Vec}
 use Rattle.refword.specs.declared.word.Word.{Word}
-use Rattle.model.specs.Scans.{is_free_todo}
-use Rattle.model.specs.States.{Reference, HeapState}
+use Rattle.model.specs.States.{HeapState}
 use Rattle.heap.specs.declared.batch.Batch.{Batch}
-use Rattle.heap.specs.Batches.{batch_objects, batch_words, batch_notes}
-use Rattle.waves.specs.Finds.{AreMarked, Rises, Finds, FindsMore, start_of, PartsFind}
+use Rattle.heap.specs.Batches.{batch_objects}
+use Rattle.waves.specs.Finds.{AreMarked, Rises, Finds, start_of, PartsFind}
 use Rattle.waves.specs.Finds.{PartsFound}
 use Rattle.waves.specs.Waves.{all_words, all_notes}
 use Rattle.waves.proofs.Adding.{rises_both, marked_both, words_both, notes_both}

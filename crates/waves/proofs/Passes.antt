@@ -1,5 +1,5 @@
 -- Notes that are taken in one after the other are taken in at once.
-use Rattle.std.proofs.Common.{◌≡◌, ◌≢◌, ◌⊎◌, inl, inr, ℕ, zero, suc, ◌+◌, ◌-◌, ◌/◌, ◌%◌, ◌≤◌, ◌<◌, true, false, Bool}
+use Rattle.std.proofs.Common.{◌≡◌, ◌≢◌, ◌⊎◌, inl, inr, ℕ, zero, suc, ◌+◌, ◌-◌, ◌/◌, ◌%◌, ◌<◌, true, false, Bool}
 use Rattle.std.proofs.Common.{List, [], ◌∷◌, ◌++◌, get_or, set, nat_le, map, Option, Some, None, refl, sym, ◌∙◌, ap, arith}
 use Rattle.std.proofs.Common.{subst}
 use Rattle.std.specs.List.{slice_get}
@@ -21,7 +21,7 @@ use Rattle.drains.proofs.Bits.{bits_two, bits_apart}
 use Rattle.drains.specs.Drains.{refs_at}
 use Rattle.waves.specs.Finds.{AreMarked}
 use Rattle.waves.specs.Waves.{note_of, notes_for, notes_from, notes_of, all_notes}
-use Rattle.waves.proofs.Done.{bit_set, rows_other, row_other}
+use Rattle.waves.proofs.Done.{bit_set, rows_other}
 
 -- each note of a scan's end is of a marked object
 abbrev pub AreEnds : List (List Bool) → ℕ → List Reference → Type 0
@@ -58,7 +58,7 @@ set_again rows w a e = by_page (a / w) (a / w - 1) refl e
     by_row n None z f = refl
     by_row n (Some row) z f =
         let bit : get_or row (a % w) false ≡ true =
-            ap (λ r. get_or r (a % w) false) (sym (get_or_from_slice_get rows n row [] z)) ∙ f in
+        ap (λ r. get_or r (a % w) false) (sym (get_or_from_slice_get rows n row [] z)) ∙ f in
         ap (set rows n) (subst (λ b. set row (a % w) b ≡ row) bit (set-get_or row (a % w) false))
         ∙ same_set rows n row z
 
@@ -256,5 +256,5 @@ pub noted_at_once : (h : HeapState) (xs : List ℕ) (ns : List Reference) → Ar
 unfolding with_notes applied
 noted_at_once h xs ns k e =
     let rows = passes h.store.words h.mark h.mark h.todo ns (at_first h.store.words h.mark h.todo)
-        (subst (AreEnds h.mark h.store.words) (sym e) (all_ends h xs k)) in
+    (subst (AreEnds h.mark h.store.words) (sym e) (all_ends h xs k)) in
     λ i. record h { mark = (sym rows i).0; todo = (sym rows i).1 }

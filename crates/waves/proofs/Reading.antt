@@ -1,7 +1,6 @@
 -- What a scan leaves of what is read after it.
-use Rattle.std.proofs.Common.{◌≡◌, ◌≢◌, ℕ, zero, suc, ◌+◌, ◌≤◌, ◌<◌, ◌/◌, ◌%◌, true, false, Bool, List, [], ◌∷◌, ◌++◌}
-use Rattle.std.proofs.Common.{set, Option, Some, None, refl, sym, ◌∙◌, ap, arith}
-use Rattle.model.specs.declared.records.Forwarding.{Forwarding}
+use Rattle.std.proofs.Common.{◌≡◌, ℕ, zero, suc, ◌+◌, ◌≤◌, ◌/◌, ◌%◌, true, List, [], ◌∷◌, ◌++◌}
+use Rattle.std.proofs.Common.{set, Option, Some, None, refl, ◌∙◌, ap, arith}
 use Rattle.model.specs.Data.{layout_at, layout_in, header_layout}
 use Rattle.model.specs.Marks.{with_mark, marked_word, resolve, entry_at, entry_of, forward_by}
 use Rattle.model.specs.Bits.{of_page}
@@ -125,7 +124,7 @@ words_from_same n h g a i zero r le = refl
 words_from_same n h g a i (suc k) r le =
     let rest = words_from_same n h g a (i + 1) k r (omega (arith, le)) in
     let one = ap (words_for g (field_address a i)) (r.read (field_address a i) le)
-        ∙ words_for_same n h g (field_address a i) (word_at h.store (field_address a i)) r in
+    ∙ words_for_same n h g (field_address a i) (word_at h.store (field_address a i)) r in
     λ j. one j ++ rest j
 
 pub notes_from_same : (n : ℕ) (h g : HeapState) (a i k : ℕ) → Reads n h g → n ≤ field_address a i
@@ -134,7 +133,7 @@ notes_from_same n h g a i zero r le = refl
 notes_from_same n h g a i (suc k) r le =
     let rest = notes_from_same n h g a (i + 1) k r (omega (arith, le)) in
     let one = ap (notes_for g) (r.read (field_address a i) le)
-        ∙ notes_for_same n h g (word_at h.store (field_address a i)) r in
+    ∙ notes_for_same n h g (word_at h.store (field_address a i)) r in
     λ j. one j ++ rest j
 
 pub refs_same : (n : ℕ) (h g : HeapState) (a : ℕ) → Reads n h g → n ≤ a → refs_at g a ≡ refs_at h a
@@ -152,7 +151,7 @@ notes_of_same : (n : ℕ) (h g : HeapState) (a : ℕ) → Reads n h g → n ≤ 
 unfolding notes_of
 notes_of_same n h g a r le =
     let fields = ap (notes_from g a 0) (refs_same n h g a r le)
-        ∙ notes_from_same n h g a 0 (refs_at h a) r (omega (arith, le)) in
+    ∙ notes_from_same n h g a 0 (refs_at h a) r (omega (arith, le)) in
     λ i. fields i ++ (Some (a, true) ∷ [])
 
 pub all_words_same : (n : ℕ) (h g : HeapState) (xs : List ℕ) → Reads (n + 1) h g → AreAbove n xs
@@ -179,6 +178,7 @@ pub apart_same : (n : ℕ) (h g : HeapState) (xs : List ℕ) → Reads (n + 1) h
     → AreApart g xs
 apart_same n h g [] r u k = tt
 apart_same n h g (a ∷ xs) r u k =
-    let same = refs_same (n + 1) h g a r (omega (arith, u.0)) in
-    (above_same (a + refs_at h a) (a + refs_at g a) xs (omega (arith, same)) k.0,
-        apart_same n h g xs r u.1 k.1)
+    let same = refs_same (n + 1) h g a r (omega (arith, u.0)) in (
+      above_same (a + refs_at h a) (a + refs_at g a) xs (omega (arith, same)) k.0,
+      apart_same n h g xs r u.1 k.1,
+    )

@@ -1,11 +1,11 @@
 -- What was found is drained, one wave after the other.
-use Rattle.std.proofs.Common.{◌≡◌, ℕ, ◌+◌, ◌-◌, ◌*◌, ◌/◌, ◌≤◌, ◌<◌, List, length, refl, sym, ◌∙◌, ap, arith, subst}
+use Rattle.std.proofs.Common.{◌≡◌, ℕ, ◌+◌, ◌*◌, ◌/◌, ◌≤◌, ◌<◌, List, length, refl, sym, ◌∙◌, ap, arith, subst}
 use Rattle.std.proofs.Math.Nat.{lt-div-mul-add, div-le_self}
 use Rattle.model.proofs.Tables.{rows_many}
 use Rattle.model.specs.Holding.{IsHeap}
 use Rattle.model.specs.Owning.{IsStore}
 use Rattle.model.specs.States.{Reference, HeapState}
-use Rattle.drains.specs.Drains.{IsReady, HasDrained, ObjectsDone}
+use Rattle.drains.specs.Drains.{IsReady, ObjectsDone}
 use Rattle.drains.proofs.Drained.{drained_then}
 use Rattle.drains.proofs.Ended.{objects_first}
 use Rattle.heap.specs.declared.batch.Batch.{Batch}

@@ -1,11 +1,11 @@
 -- What was found is written, one after the other.
-use Rattle.std.proofs.Common.{◌≡◌, ℕ, zero, suc, ◌+◌, ◌≤◌, ◌<◌, true, false, Bool, List, [], ◌∷◌, ◌++◌, drop, length}
-use Rattle.std.proofs.Common.{get_or, Option, Some, None, refl, sym, ◌∙◌, ap, arith}
+use Rattle.std.proofs.Common.{◌≡◌, ℕ, ◌+◌, ◌≤◌, ◌<◌, true, false, List, [], ◌∷◌, drop, length}
+use Rattle.std.proofs.Common.{get_or, Some, None, refl, sym, ◌∙◌, ap}
 use Rattle.std.specs.Prelude.{if◌then◌else◌}
 use Rattle.std.proofs.lemmas.List.{drop_more, drop_all}
 use Rattle.std.proofs.lemmas.Option.{same_Some}
 use Rattle.refword.specs.Words.{bits_of, address_in, mark_in}
-use Rattle.heap.specs.Marking.{marked_at, noted, MarksApart}
+use Rattle.heap.specs.Marking.{marked_at}
 use Rattle.model.specs.Bits.{bit_at, with_bit}
 use Rattle.model.specs.States.{Reference, HeapState}
 use Rattle.model.specs.Stores.{with_word}

@@ -1,8 +1,8 @@
 -- What a part of a wave finds.
-use Rattle.std.specs.Prelude.{◌≡◌, ℕ, zero, suc, ◌+◌, ◌*◌, ◌<◌, ◌≤◌, true, Bool, List, [], ◌∷◌, ◌++◌, length}
+use Rattle.std.specs.Prelude.{◌≡◌, ℕ, ◌+◌, ◌*◌, ◌≤◌, true, List, [], ◌∷◌, ◌++◌}
 use Rattle.model.specs.Bits.{bit_at}
 use Rattle.model.specs.Scans.{is_free_todo}
-use Rattle.model.specs.States.{Reference, HeapState}
+use Rattle.model.specs.States.{HeapState}
 use Rattle.model.specs.Stores.{word_at}
 use Rattle.drains.specs.Drains.{refs_at}
 use Rattle.heap.specs.Batches.{batch_objects, batch_words, batch_notes}

@@ -1,5 +1,5 @@
 -- Waves: many grey objects are scanned at once.
-use Rattle.std.specs.Prelude.{◌≡◌, ℕ, zero, suc, ◌+◌, ◌<◌, true, false, List, [], ◌∷◌, ◌++◌, Option, Some, None}
+use Rattle.std.specs.Prelude.{ℕ, zero, suc, ◌+◌, ◌<◌, true, false, List, [], ◌∷◌, ◌++◌, Option, Some, None}
 use Rattle.model.specs.Marks.{marked_word}
 use Rattle.model.specs.References.{field_address, read_reference}
 use Rattle.model.specs.States.{Reference, HeapState}

@@ -33,12 +33,7 @@ fn marked_bits(heap: &Heap, bits: u64) -> Word
 
 /// Finds what the mark of a reference writes and notes: nothing, if its bits are 0. Fails only if out of memory.
 #[inline(always)]
-fn find_field(
-    heap: &Heap,
-    address: Addr,
-    index: u32,
-    found: &mut Batch,
-) -> Result<(), AllocError>
+fn find_field(heap: &Heap, address: Addr, index: u32, found: &mut Batch) -> Result<(), AllocError>
     requires few { index < 2 ^ 16 }
     ensures { IfOk result (λ _. AddsField heap.now (field_address address index) found.old found.new) }
 {
@@ -59,12 +54,7 @@ fn find_field(
 
 /// Finds the same of the first `refs` references of an object. Fails only if out of memory.
 #[inline(always)]
-fn find_fields(
-    heap: &Heap,
-    address: Addr,
-    refs: u32,
-    found: &mut Batch,
-) -> Result<(), AllocError>
+fn find_fields(heap: &Heap, address: Addr, refs: u32, found: &mut Batch) -> Result<(), AllocError>
     requires few { refs < 2 ^ 16 }
     ensures { IfOk result (λ _. AddsFields heap.now address 0 refs found.old found.new) }
 {
@@ -90,12 +80,7 @@ fn refs_at(heap: &Heap, address: Addr) -> u32
 /// Finds what a complete scan of a grey object writes and notes, and adds the object. Fails only if out of memory.
 #[inline(always)]
 #[tactic(auto, using(crate::proofs::Adding::object_found))]
-fn find_object(
-    heap: &Heap,
-    address: Addr,
-    refs: u32,
-    found: &mut Batch,
-) -> Result<(), AllocError>
+fn find_object(heap: &Heap, address: Addr, refs: u32, found: &mut Batch) -> Result<(), AllocError>
     requires free { is_free_todo heap.now address ≡ true }
     requires marked { bit_at heap.now.mark heap.now.store.words address ≡ true }
     requires refs { refs ≡ refs_at heap.now address }
@@ -108,8 +93,8 @@ fn find_object(
     Ok(())
 }
 
-/// Finds the grey object at a place of a page, if it is marked and ends within the page. Returns the place after it, or after the
-/// given one, if it is left. Fails only if out of memory.
+/// Finds the grey object at a place of a page, if it is marked and ends within the page. Returns the place after it, or
+/// after the given one, if it is left. Fails only if out of memory.
 #[inline(always)]
 fn find_at(heap: &Heap, page: u32, place: u32, found: &mut Batch) -> Result<u32, AllocError>
     requires low { 0 < page }
@@ -168,7 +153,12 @@ fn find_page(heap: &Heap, index: u32, found: &mut Batch) -> Result<(), AllocErro
 }
 
 /// Finds grey objects of the pages with records from one index on and before another, as `find_on` does.
-pub(crate) fn find_in(heap: &Heap, first: usize, end: usize, found: &mut Batch) -> Result<(), AllocError>
+pub(crate) fn find_in(
+    heap: &Heap,
+    first: usize,
+    end: usize,
+    found: &mut Batch,
+) -> Result<(), AllocError>
     requires order { first ≤ end }
     requires alone { list_any is_some heap.now.workers ≡ false }
     ensures { IfOk result (λ _. FindsMore heap.now ((first + 1) * heap.now.store.words)

@@ -6,9 +6,9 @@ mod finding;
 mod parting;
 mod waving;
 
-pub use waving::drain_by;
-
 ghost use Rattle.waves.specs.Promises.{WavesScan, WavesDrain};
+
+pub use waving::drain_by;
 
 /// Proves that a wave scans its objects one after the other.
 pub fn law()

@@ -12,12 +12,7 @@ use std::thread::{Threads, map_indices};
 
 /// Finds grey objects of the pages with records from one index on and before another, and sorts the notes. Fails only
 /// if out of memory.
-fn find_sorted(
-    heap: &Heap,
-    first: usize,
-    end: usize,
-    groups: Groups,
-) -> Result<Batch, AllocError>
+fn find_sorted(heap: &Heap, first: usize, end: usize, groups: Groups) -> Result<Batch, AllocError>
     requires order { first ≤ end }
     requires alone { list_any is_some heap.now.workers ≡ false }
     requires small { groups.shift < 32 }

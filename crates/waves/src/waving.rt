@@ -87,13 +87,7 @@ fn wave<R: Threads + Sync>(
 
 /// Does a wave on a number of threads, if so many objects are grey that it is worth it, and returns how many it
 /// scanned.
-fn try_wave<R: Threads + Sync>(
-    rt: &R,
-    heap: &mut Heap,
-    worker: u32,
-    most: u64,
-    threads: u32,
-) -> u64
+fn try_wave<R: Threads + Sync>(rt: &R, heap: &mut Heap, worker: u32, most: u64, threads: u32) -> u64
     requires { IsReady heap.old worker }
     ensures done { ObjectsDone heap.old worker result heap.new }
     ensures few { result ≤ most }
@@ -132,13 +126,7 @@ fn scan_some<R: Threads + Sync>(
 }
 
 /// Scans objects, at most `most`, until none is grey that no worker has.
-fn scan_by<R: Threads + Sync>(
-    rt: &R,
-    heap: &mut Heap,
-    worker: u32,
-    most: u64,
-    threads: u32,
-) -> u64
+fn scan_by<R: Threads + Sync>(rt: &R, heap: &mut Heap, worker: u32, most: u64, threads: u32) -> u64
     requires { IsReady heap.old worker }
     ensures done { ObjectsDone heap.old worker result heap.new }
     ensures few { result ≤ most }

@@ -1,8 +1,10 @@
 //! Notes for the bitmaps of marked and of grey objects, which are taken in on threads.
 
-ghost use Rattle.std.specs.Prelude.{◌≡◌, ◌≤◌, ◌<◌, ◌-◌, length, map, drop, slice_get, Some, true, [], filter, ◌^◌, ◌/◌, ◌*◌};
+ghost use Rattle.std.specs.Prelude.{◌≡◌, ◌≤◌, ◌<◌, ◌*◌, ◌/◌, ◌^◌, length, map, drop, filter, slice_get};
+ghost use Rattle.std.specs.Prelude.{Some, true, []};
 ghost use Rattle.model.specs.Bits.{put_bit};
-ghost use Rattle.heap.specs.Batches.{AllSorted, AreEmpty, in_bucket, items_in, batch_notes, edit_one, edited, todo_edit, mark_edit, with_notes};
+ghost use Rattle.heap.specs.Batches.{AllSorted, AreEmpty, in_bucket, items_in, batch_notes, edit_one, edited};
+ghost use Rattle.heap.specs.Batches.{todo_edit, mark_edit, with_notes};
 
 use crate::batch::{Batch, Groups};
 use crate::heap::Heap;
@@ -52,7 +54,13 @@ fn note_marked(chunk: &mut [Row], start: usize, note: Word, store: &Store)
         return;
     }
     let (page, offset) = (store.page_of(address), store.offset_of(address));
-    put_in(chunk, start, page.saturating_sub(1) as usize, offset as usize, true);
+    put_in(
+        chunk,
+        start,
+        page.saturating_sub(1) as usize,
+        offset as usize,
+        true,
+    );
 }
 
 /// Takes notes in to the bitmaps of grey objects from number `start` on, one after the other.
@@ -181,7 +189,17 @@ fn note_grey_by<R: Threads + Sync>(
         ensures { chunk.exit.now ≡ edited start chunk.entry.now (map (todo_edit mark.entry.now store.entry.now.words)
             (filter (in_bucket store.entry.now.words (2 ^ groups.shift) (start / 2 ^ groups.shift))
             (batch_notes batches.entry.now))) }
-    { note_grey_batches(chunk, start, batches, groups, start >> groups.shift, mark, store) };
+    {
+        note_grey_batches(
+            chunk,
+            start,
+            batches,
+            groups,
+            start >> groups.shift,
+            mark,
+            store,
+        )
+    };
     todo.change_by(rt, end, group_size(groups), &note);
 }
 

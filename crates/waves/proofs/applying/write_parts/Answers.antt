@@ -1,4 +1,4 @@
-use Rattle.std.proofs.Common.{arith, [], ap, sym, ◌∙◌}
+use Rattle.std.proofs.Common.{arith, [], ap, ◌∙◌}
 use Rattle.heap.specs.Batches.{applied}
 use Rattle.heap.specs.Batches.{batch_words}
 use Rattle.waves.proofs.Written.{write_next, write_end}

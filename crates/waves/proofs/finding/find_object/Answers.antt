@@ -1,5 +1,4 @@
-use Rattle.std.proofs.Common.{refl, sym, ◌∙◌, ap, ◌++◌, ◌∷◌, []}
-use Rattle.std.specs.Prelude.{Some, true}
+use Rattle.std.proofs.Common.{refl, ◌∙◌, ap, ◌++◌, ◌∷◌, []}
 use Rattle.waves.proofs.Adding.{object_found}
 use Rattle.waves.proofs.finding.find_object.Goals as goal
 

@@ -9,8 +9,12 @@ returns-then-place-words c = page_last c.args.heap.now c.args.page c.loop-place.
 
 pub find_at-requires-clause-free : goal.find_at-requires-clause-free
 find_at-requires-clause-free c = free_here c.args.heap.now c.args.row.now c.args.page c.in-Some.place c.requires.row
-    (omega (arith, c.if-place-words.false, c.page_words-words.ensures.value,
-    ap (λ (s : StoreState). s.words) c.memory.ensures)) c.in-Some.ensures.here c.requires.alone
+    (omega (
+      arith,
+      c.if-place-words.false,
+      c.page_words-words.ensures.value,
+      ap (λ (s : StoreState). s.words) c.memory.ensures,
+    )) c.in-Some.ensures.here c.requires.alone
 
 pub loop-place-preserved : goal.loop-place-preserved
 loop-place-preserved c = (

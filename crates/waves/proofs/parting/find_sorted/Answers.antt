@@ -1,4 +1,4 @@
-use Rattle.std.proofs.Common.{◌^◌, arith, ap, sym, subst, ◌∙◌}
+use Rattle.std.proofs.Common.{◌^◌, arith, sym, subst}
 use Rattle.heap.specs.Batches.{AreSorted}
 use Rattle.model.specs.Stores.{StoreState}
 use Rattle.waves.specs.Finds.{start_of}

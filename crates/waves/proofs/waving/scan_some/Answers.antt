@@ -1,5 +1,4 @@
 use Rattle.waves.proofs.Waved.{objects_none}
-use Rattle.std.proofs.Common.{arith}
 use Rattle.waves.proofs.waving.scan_some.Goals as goal
 
 pub returns-clause-done : goal.returns-clause-done

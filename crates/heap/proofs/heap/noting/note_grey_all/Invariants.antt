@@ -1,5 +1,5 @@
 use Rattle.std.proofs.Common.{◌≡◌, drop, map}
-use Rattle.heap.specs.Batches.{batch_notes, edited, todo_edit}
+use Rattle.heap.specs.Batches.{edited, todo_edit}
 use Rattle.heap.proofs.heap.noting.note_grey_all.Given as goal
 
 abbrev pub invariant-loop-index : goal.invariant-loop-index

@@ -1,5 +1,5 @@
-use Rattle.std.proofs.Common.{arith, map, ap, ◌∙◌}
-use Rattle.heap.specs.Batches.{batch_notes, edited, mark_edit}
+use Rattle.std.proofs.Common.{arith, map}
+use Rattle.heap.specs.Batches.{edited, mark_edit}
 use Rattle.heap.proofs.Noting.{edits_next, edits_end}
 use Rattle.heap.proofs.heap.noting.note_marked_all.Goals as goal
 
