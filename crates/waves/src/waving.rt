@@ -145,7 +145,8 @@ fn scan_by<R: Threads + Sync>(rt: &R, heap: &mut Heap, worker: u32, most: u64, t
 
 /// Drains the rest of a mark by a worker that is ready, as `drain` does, with the same result for the heap, on a
 /// number of threads: while many objects are grey, all of them are scanned at once, in waves. What they refer to is
-/// read on threads of their own, each for some of the pages, and then written on this one.
+/// read on threads, each for some of the pages; references are written on this thread; and objects are marked on
+/// threads, each for some of the pages.
 ///
 /// If memory runs out for what a wave has read, or if a thread can't be started, this thread does the work.
 pub fn drain_by<R: Threads + Sync>(
