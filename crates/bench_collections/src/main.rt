@@ -7,6 +7,7 @@
 //! |---|---|
 //! | `mark-SHAPE COUNT WORDS HEAPS TIMES` | makes a shape in each of HEAPS heaps, and marks it TIMES times |
 //! | `collect-SHAPE COUNT WORDS HEAPS TIMES` | the same with TIMES complete collections |
+//! | `waves-SHAPE COUNT WORDS THREADS TIMES` | makes a shape, and marks it TIMES times on THREADS threads, or with 0 on one as `mark-SHAPE` does; prints how often, and after `timed` nanoseconds |
 //! | `keep WORDS COUNT` | allocates COUNT objects, each of which becomes the head of a list |
 //! | `drop WORDS COUNT` | allocates COUNT garbage objects, and collects meanwhile |
 //!
@@ -55,6 +56,7 @@ use bench_support::{Work, tell, works};
 use filling::{narrow, wide};
 use pauseless::Layout;
 use std::alloc::Global;
+use std::thread::Threads;
 use std::time::Clock;
 use turning::{Shape, Task, Turn};
 
@@ -117,18 +119,40 @@ fn part<R: Clock + Print>(rt: &R, alloc: Global, asked: &Work, layout: Layout) -
     tell(rt, &laps, asked.timed)
 }
 
+/// Does marks of a shape on threads, and prints what they took.
+fn wave<R: Clock + Print + Threads + Sync>(
+    rt: &R,
+    alloc: Global,
+    asked: &Work,
+    shape: Shape,
+) -> Result<()> {
+    let [count, words, threads, times, _] = asked.numbers;
+    let task = Task {
+        shape,
+        count,
+        words,
+        turn: Turn::Mark,
+        times,
+    };
+    let laps = turning::waves(rt, alloc, task, threads)?;
+    tell(rt, &laps, asked.timed)
+}
+
 /// Does a work by its name, and prints what it has come to.
-fn work<R: Clock + Print>(rt: &R, alloc: Global, asked: &Work) -> Result<()> {
+fn work<R: Clock + Print + Threads + Sync>(rt: &R, alloc: Global, asked: &Work) -> Result<()> {
     let [_, _, size, _, _] = asked.numbers;
     match asked.name.as_str() {
         "parts" => part(rt, alloc, asked, narrow(size)?),
         "wide" => part(rt, alloc, asked, wide(size)?),
+        "waves-list" => wave(rt, alloc, asked, Shape::List),
+        "waves-tree" => wave(rt, alloc, asked, Shape::Tree),
+        "waves-graph" => wave(rt, alloc, asked, Shape::Graph),
         _ => give(rt, alloc, asked),
     }
 }
 
 /// Does each work.
-fn run<R: Clock + Print>(rt: &R, alloc: Global, works: &[Work]) -> Result<()> {
+fn run<R: Clock + Print + Threads + Sync>(rt: &R, alloc: Global, works: &[Work]) -> Result<()> {
     for asked in works {
         work(rt, alloc, asked)?;
     }

@@ -3,8 +3,11 @@
 use crate::asking::{Marked, new_heap, settle};
 use crate::{lists, meshes};
 use anyhow::Result;
+use bench_support::{Lap, Laps, since};
 use pauseless::{Holding, Refusal};
 use std::alloc::Global;
+use std::thread::Threads;
+use std::time::{Clock, Instant};
 
 /// The shape of the objects.
 #[derive(Clone, Copy)]
@@ -100,4 +103,46 @@ fn lost(alloc: Global, mut heap: impl Holding + Drop, count: u32) -> Result<u64>
 /// Allocates `count` garbage objects. Returns their number.
 pub fn lose(alloc: Global, words: u32, count: u32) -> Result<u64> {
     lost(alloc, new_heap(alloc, words)?, count)
+}
+
+/// Marks a heap `times` times on threads, and adds the time of each mark. Returns how many objects are live.
+fn timed<R: Clock + Threads + Sync>(
+    rt: &R,
+    heap: &mut impl Marked,
+    task: Task,
+    threads: u32,
+    laps: &mut Laps,
+) -> Result<u64> {
+    let mut live = 0;
+    for _ in 0..task.times {
+        let start = Instant::now(rt)?;
+        live = heap.mark_by_threads(rt, threads)?;
+        laps.add("mark", since(rt, start)?)?;
+    }
+    Ok(live)
+}
+
+/// Makes a shape in a heap, and marks it on threads.
+fn worked<R: Clock + Threads + Sync>(
+    rt: &R,
+    alloc: Global,
+    mut heap: impl Marked + Drop,
+    task: Task,
+    threads: u32,
+) -> Result<Vec<Lap>> {
+    let mut laps = Laps::new(alloc);
+    build(alloc, &mut heap, task)?;
+    settle(&mut heap)?;
+    timed(rt, &mut heap, task, threads, &mut laps)?;
+    Ok(laps.all()?)
+}
+
+/// Makes a shape, and marks it on threads. Returns the times.
+pub fn waves<R: Clock + Threads + Sync>(
+    rt: &R,
+    alloc: Global,
+    task: Task,
+    threads: u32,
+) -> Result<Vec<Lap>> {
+    worked(rt, alloc, new_heap(alloc, task.words)?, task, threads)
 }

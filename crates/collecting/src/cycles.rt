@@ -69,7 +69,7 @@ fn empty_choice(heap: &mut ManagedHeap, live: u64, choice: Choice) -> Result<Col
 }
 
 /// Chooses pages and empties them, after a mark that found `live` objects.
-fn empty_behind(
+pub(crate) fn empty_behind(
     heap: &mut ManagedHeap,
     alloc: Global,
     percent: u32,

@@ -21,6 +21,7 @@ mod preparing;
 mod rooms;
 mod seeing;
 mod target;
+mod threading;
 mod words;
 
 pub use collecting::{Collected, Holding};
@@ -32,3 +33,4 @@ pub use parts::Parts;
 pub use policy::{Policy, PolicyFault};
 pub use seeing::Object;
 pub use target::Target;
+pub use threading::collect_by;

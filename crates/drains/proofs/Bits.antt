@@ -72,7 +72,7 @@ bits_two rows w a b = changed_two rows (a / w - 1) (b / w - 1) (put_bit (a % w) 
 same_page : (m n : ℕ) → 0 < m → 0 < n → m - 1 ≡ n - 1 → m ≡ n
 same_page m n a b e = omega arith
 
-bits_apart : (rows : List (List Bool)) (w a b : ℕ) → 0 < a / w → 0 < b / w → b ≢ a
+pub bits_apart : (rows : List (List Bool)) (w a b : ℕ) → 0 < a / w → 0 < b / w → b ≢ a
     → with_bit (with_bit rows w b true) w a false ≡ with_bit (with_bit rows w a false) w b true
 bits_apart rows w a b low high apart =
     changed_two rows (b / w - 1) (a / w - 1) (put_bit (b % w) true) (put_bit (a % w) false)

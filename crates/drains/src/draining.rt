@@ -50,7 +50,7 @@ fn has_scans(heap: &Heap) -> bool
 }
 
 /// Returns whether no worker has an object.
-fn is_alone(heap: &Heap) -> bool
+pub fn is_alone(heap: &Heap) -> bool
     ensures { result ≡ not (list_any is_some heap.now.workers) }
 {
     !has_scans(heap)
@@ -197,8 +197,8 @@ fn is_enough(scanned: u64, limit: Option<u64>) -> bool
 }
 
 /// Picks and scans objects for a worker: at most `most`, until `limit` references were scanned, if there is a limit,
-/// or until none is left that no worker has.
-fn scan_objects(heap: &mut Heap, worker: u32, most: u64, limit: Option<u64>) -> Portion
+/// or until none is left that no worker has. Globals stay as they are.
+pub fn scan_objects(heap: &mut Heap, worker: u32, most: u64, limit: Option<u64>) -> Portion
     requires { IsReady heap.old worker }
     ensures done { ObjectsDone heap.old worker result.objects heap.new }
     ensures few { result.objects ≤ most }

@@ -6,4 +6,5 @@ mod draining;
 mod globals;
 mod whole;
 
-pub use draining::{Portion, drain, drain_some, is_ready, may_scan};
+pub use draining::{Portion, drain, drain_some, is_alone, is_ready, may_scan, scan_objects};
+pub use globals::mark_globals;

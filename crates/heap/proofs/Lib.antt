@@ -13,3 +13,6 @@ pub mod GivenRows
 pub mod Found
 pub mod Compared
 pub mod Sizes
+pub mod Noting
+pub mod Chunks
+pub mod Sorted

@@ -9,3 +9,5 @@ pub mod Runs
 pub mod Marking
 pub mod Found
 pub mod Writing
+pub mod Batches
+pub mod Sorting

@@ -9,6 +9,7 @@ pub mod edits;
 mod kept;
 mod making;
 mod marks;
+mod noting;
 pub mod opening;
 pub mod references;
 mod registers;

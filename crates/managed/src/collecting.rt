@@ -58,7 +58,7 @@ impl ManagedHeap {
         }
     }
 
-    fn end_mark(&mut self, worker: u32) -> Result<u64, Refusal>
+    pub(crate) fn end_mark(&mut self, worker: u32) -> Result<u64, Refusal>
         ensures { EndsHere worker self.old result self.new }
     {
         let reply = self.step(Actor::Worker(worker), &Step::EndMark);

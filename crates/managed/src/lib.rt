@@ -19,6 +19,7 @@ mod mutating;
 mod preparing;
 mod scanning;
 mod scrubbing;
+mod threading;
 mod transfer;
 
 pub use batches::{FieldLoad, LoadsFault};

@@ -107,7 +107,7 @@ impl ManagedHeap {
         }
     }
 
-    fn drain_nothing(&mut self, worker: u32) -> Result<(), Refusal>
+    pub(crate) fn drain_nothing(&mut self, worker: u32) -> Result<(), Refusal>
         requires { ScansNothing worker self.old }
         ensures goes { Goes (IsDrain worker) self.old self.new }
         ensures ends { EndsDrain worker self.old result self.new }

@@ -7,3 +7,5 @@ pub mod Blocks
 pub mod Ranks
 pub mod Lows
 pub mod Cleared
+pub mod Prefixes
+pub mod Settled

@@ -16,9 +16,9 @@ use std::marker::Model;
 /// found without reading the others.
 #[derive(Debug, Drop)]
 pub struct IndexedRows {
-    rows: Rows,
+    pub(crate) rows: Rows,
     /// Bit `i` is set if bitmap `i` has a bit set.
-    busy: IndexedRow,
+    pub(crate) busy: IndexedRow,
 }
 
 impl Model for IndexedRows {
@@ -36,7 +36,7 @@ impl Model for IndexedRows {
 /// right already.
 #[inline(always)]
 #[tactic(auto, using(crate::proofs::Busy::settled_before))]
-fn settle(busy: &mut IndexedRow, rows: &Rows, index: usize)
+pub(crate) fn settle(busy: &mut IndexedRow, rows: &Rows, index: usize)
     ensures { busy.new ≡ settle busy.old index (slice_get rows.now index) }
 {
     if let Some(row) = rows.get(index) {

@@ -276,7 +276,7 @@ impl Row {
 /// takes no memory, unless it was given up and keeps its own for `blank`.
 #[derive(Debug, Drop)]
 pub struct Rows {
-    rows: Vec<Row>,
+    pub(crate) rows: Vec<Row>,
     /// No bitmap before this index keeps memory after it was given up.
     first_kept: usize,
 }

@@ -1,0 +1,46 @@
+//! Batches of edits.
+
+ghost use Rattle.std.specs.Prelude.{◌≡◌, []};
+
+use refword::{Addr, Word};
+use std::alloc::Global;
+
+/// Raw edits of many objects. A batch is filled while nothing changes the heap.
+#[derive(Drop)]
+pub struct Batch {
+    /// The addresses of objects whose scans end.
+    pub objects: Vec<Addr, Global>,
+    /// References to write, each with the number of its place.
+    pub words: Vec<(u64, Word), Global>,
+    /// Notes for the bitmaps: the address of an object to mark, or with the bit set, that of an object that is grey no
+    /// longer.
+    pub notes: Vec<Word, Global>,
+    /// The same notes by groups of pages, in a list for each group.
+    pub sorted: Vec<Vec<Word, Global>, Global>,
+}
+
+impl Batch {
+    /// Returns a batch of nothing. It takes no memory.
+    pub fn new(alloc: Global) -> Batch
+        ensures objects { result.objects.items ≡ [] }
+        ensures words { result.words.items ≡ [] }
+        ensures notes { result.notes.items ≡ [] }
+        ensures sorted { result.sorted.items ≡ [] }
+    {
+        Batch {
+            objects: Vec::new(alloc),
+            words: Vec::new(alloc),
+            notes: Vec::new(alloc),
+            sorted: Vec::new(alloc),
+        }
+    }
+}
+
+/// How pages are grouped, by the indexes of their records.
+#[derive(Clone, Copy)]
+pub struct Groups {
+    /// A group is 2 to the power of this many pages.
+    pub shift: u32,
+    /// How many groups there are.
+    pub count: usize,
+}

@@ -1,0 +1,117 @@
+//! A heap with many objects on one level: a table of tables, and objects that refer to the first table.
+
+use cycle::{Mutating, Stepping};
+use drains::{drain, is_ready};
+use heap::Heap;
+use layout::{Layout, Layouts};
+use model::{Actor, Config, Refusal, Step};
+use std::alloc::{AllocError, Global};
+use std::thread::Threads;
+use waves::drain_by;
+
+/// The tables, and the objects of each.
+pub const TABLES: u32 = 64;
+
+pub const PLACES: u32 = 256;
+
+/// The words of a page.
+const WORDS: u32 = 1024;
+
+/// Registers: the first table, another, and an object.
+const FIRST: u32 = 0;
+
+const TABLE: u32 = 1;
+
+const OBJECT: u32 = 2;
+
+/// A heap that is marked by one thread or on several. The calls have no contracts.
+pub trait Marked: Mutating + Stepping {
+    /// Begins a mark, and the thread crosses.
+    fn begin(&mut self) -> Result<(), Refusal>;
+
+    /// Drains by one thread, if the worker is ready. Returns how many objects were scanned.
+    fn drained(&mut self, most: u64) -> u64;
+
+    /// The same on a number of threads.
+    fn waved<R: Threads + Sync>(&mut self, rt: &R, most: u64, threads: u32) -> u64;
+
+    /// Ends the mark.
+    fn end(&mut self) -> Result<(), Refusal>;
+}
+
+impl Marked for Heap {
+    fn begin(&mut self) -> Result<(), Refusal> {
+        self.step(Actor::Worker(0), &Step::StartMark)?;
+        self.step(Actor::Thread(0), &Step::Cross)?;
+        Ok(())
+    }
+
+    fn drained(&mut self, most: u64) -> u64 {
+        if is_ready(self, 0) {
+            drain(self, 0, most)
+        } else {
+            0
+        }
+    }
+
+    fn waved<R: Threads + Sync>(&mut self, rt: &R, most: u64, threads: u32) -> u64 {
+        if is_ready(self, 0) {
+            drain_by(rt, self, 0, most, threads)
+        } else {
+            0
+        }
+    }
+
+    fn end(&mut self) -> Result<(), Refusal> {
+        self.step(Actor::Worker(0), &Step::EndMark)?;
+        Ok(())
+    }
+}
+
+/// Returns the configuration: objects of one reference, and tables of 64 and of 256.
+pub fn config(alloc: Global) -> Result<Config, AllocError> {
+    let layouts = vec![in alloc;
+        Layout { refs: 1, nums: 0 },
+        Layout { refs: 64, nums: 0 },
+        Layout { refs: 256, nums: 0 },
+    ]?;
+    Ok(Config::new(WORDS, 128, Layouts::new(layouts)))
+}
+
+/// Makes an object, in a new buffer if the present one is full.
+fn make(heap: &mut impl Marked, target: u32, layout: u32) -> Result<(), Refusal> {
+    if heap.new_object(0, target, layout).is_ok() {
+        return Ok(());
+    }
+    if heap.give_back(0).is_err() {
+        let _none = heap.is_null(0, target);
+    }
+    heap.take(0, WORDS)?;
+    heap.new_object(0, target, layout)?;
+    Ok(())
+}
+
+/// Makes a table of objects that refer to the first table.
+fn fill_table(heap: &mut impl Marked) -> Result<(), Refusal> {
+    make(heap, TABLE, 2)?;
+    for place in 0..PLACES {
+        make(heap, OBJECT, 0)?;
+        heap.store(0, OBJECT, 0, FIRST)?;
+        heap.store(0, TABLE, place, OBJECT)?;
+    }
+    Ok(())
+}
+
+/// Makes all tables. The first one is in global 0.
+pub fn fill(heap: &mut impl Marked) -> Result<(), Refusal> {
+    make(heap, FIRST, 1)?;
+    for place in 0..TABLES {
+        fill_table(heap)?;
+        heap.store(0, FIRST, place, TABLE)?;
+    }
+    heap.store_global(0, 0, FIRST)?;
+    for register in 0..3 {
+        heap.clear_register(0, register)?;
+    }
+    Ok(())
+}

@@ -1,0 +1,77 @@
+//! Marks of the same heap by one thread and on several.
+
+use crate::same::{same, same_at};
+use crate::tables::{Marked, PLACES, TABLES, config, fill};
+use heap::Heap;
+use std::process::Abort;
+use std::test::Fail;
+use std::thread::Threads;
+
+/// How many objects there are.
+fn all() -> u64 {
+    1 + u64::from(TABLES) + u64::from(TABLES) * u64::from(PLACES)
+}
+
+/// Both heaps have the same words, marks and grey objects.
+fn are_same(rt: &impl Abort, one: &Heap, other: &Heap) {
+    for page in 1..=one.memory().page_count() {
+        same_at(
+            rt,
+            page,
+            one.memory().words(page),
+            other.memory().words(page),
+        );
+    }
+    same(rt, one.mark().count(), other.mark().count());
+    same(rt, one.todo().is_empty(), other.todo().is_empty());
+}
+
+/// A heap is marked by one thread, and another on several.
+fn marks<R: Abort + Threads + Sync>(
+    rt: &R,
+    mut one: Heap,
+    mut other: Heap,
+    threads: u32,
+) -> Result<(), Fail> {
+    fill(&mut one)?;
+    fill(&mut other)?;
+    one.begin()?;
+    other.begin()?;
+    same(rt, one.drained(u64::MAX), all());
+    same(rt, other.waved(rt, u64::MAX, threads), all());
+    are_same(rt, &one, &other);
+    one.end()?;
+    other.end()?;
+    same(rt, other.live().count(), all());
+    Ok(())
+}
+
+#[test]
+fn four_threads_mark_as_one(rt: HostRuntime) -> Result<(), Fail> {
+    let one = Heap::new(rt.alloc(), config(rt.alloc())?)?;
+    let other = Heap::new(rt.alloc(), config(rt.alloc())?)?;
+    marks(&rt, one, other, 4)
+}
+
+#[test]
+fn a_wave_of_one_part(rt: HostRuntime) -> Result<(), Fail> {
+    let one = Heap::new(rt.alloc(), config(rt.alloc())?)?;
+    let other = Heap::new(rt.alloc(), config(rt.alloc())?)?;
+    marks(&rt, one, other, 1)
+}
+
+/// A drain that is bounded stops after so many objects, and goes on later.
+fn stops<R: Abort + Threads + Sync>(rt: &R, mut heap: Heap) -> Result<(), Fail> {
+    fill(&mut heap)?;
+    heap.begin()?;
+    same(rt, heap.waved(rt, 5000, 3), 5000);
+    same(rt, heap.waved(rt, u64::MAX, 3), all() - 5000);
+    same(rt, heap.waved(rt, u64::MAX, 3), 0);
+    Ok(())
+}
+
+#[test]
+fn a_bounded_drain_goes_on(rt: HostRuntime) -> Result<(), Fail> {
+    let heap = Heap::new(rt.alloc(), config(rt.alloc())?)?;
+    stops(&rt, heap)
+}

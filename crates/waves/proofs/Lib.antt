@@ -1,0 +1,10 @@
+pub mod Reading
+pub mod Folding
+pub mod Adding
+pub mod Pages
+pub mod Written
+pub mod Parts
+pub mod Waved
+pub mod Passes
+pub mod Sorted
+pub mod Done

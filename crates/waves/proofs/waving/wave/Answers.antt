@@ -1,0 +1,15 @@
+use Rattle.std.proofs.Common.{ap, ◌∙◌, length}
+use Rattle.heap.specs.Batches.{batch_objects, batch_words, batch_notes}
+use Rattle.waves.specs.Finds.{start_of}
+use Rattle.heap.specs.Batches.{applied}
+use Rattle.waves.proofs.Waved.{parts_drain}
+use Rattle.waves.proofs.waving.wave.Goals as goal
+
+pub returns-clause-done : goal.returns-clause-done
+returns-clause-done g c =
+    let h = c.args.heap.now in
+    parts_drain h c.apply_parts.new.heap c.args.worker c.in-Some.count (start_of h 0) c.in-Ok.found.items
+    (record { scan = c.requires.scan; none = c.requires.none; worker = c.requires.worker })
+    c.law.ensures.store c.law.ensures.heap c.in-Ok.ensures.found
+    (c.in-Some.ensures.count ∙ ap (λ fs. length (batch_objects fs)) c.deref.ensures.value)
+    (c.apply_parts.ensures ∙ ap (λ fs. applied h (batch_words fs) (batch_notes fs)) c.deref-2.ensures.value)

@@ -1,0 +1,17 @@
+//! Waves of a mark: many grey objects are scanned at once, on threads, with the effect of one after the other.
+#![tactic(auto)]
+
+mod applying;
+mod finding;
+mod parting;
+mod waving;
+
+ghost use Rattle.waves.specs.Promises.{WavesScan, WavesDrain};
+
+pub use waving::drain_by;
+
+/// Proves that a wave scans its objects one after the other.
+pub fn law()
+    ensures scans { WavesScan }
+    ensures drain { WavesDrain }
+{}
