@@ -99,8 +99,8 @@ pub fn protect(heap: &mut Heap, worker: u32, pages: &[u32]) -> Reply
         return Err(Refusal::Phase);
     }
     all_ripe(heap, pages)?;
-    heap.raw_tidy();
     heap.law();
+    heap.raw_tidy();
     let Ok(prepared) = prepare(heap.allocator(), heap, pages) else {
         return Err(Refusal::Memory);
     };
