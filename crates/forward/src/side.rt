@@ -75,13 +75,7 @@ impl Side {
         let copied = Row::new(alloc, live.count() as u32)?;
         let live = RankedRow::new(alloc, live)?;
         let places = Places::listed(alloc, &places)?;
-        Ok(Side {
-            live,
-            places,
-            copied,
-            last: 0,
-            number: u32::MAX,
-        })
+        Ok(Side::of(live, places, copied))
     }
 
     /// Returns a forwarding table of these parts: a bitmap of the entries' offsets, their new addresses, and which of
