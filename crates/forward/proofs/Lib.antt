@@ -10,4 +10,3 @@ pub mod Bases
 pub mod Drafted
 pub mod Planned
 pub mod Totals
-pub mod Settling

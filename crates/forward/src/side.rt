@@ -198,7 +198,7 @@ impl Side {
         self.live.test(offset as usize)
     }
 
-    /// Returns the entry of an offset, or `None`: found by one bit, one number and one word.
+    /// Returns the entry of an offset, or `None`: found by one bit, one rank, and one distance from a base.
     pub fn find(&self, offset: u32) -> Option<Forwarding>
         ensures { result ≡ entry_of self.now offset }
     {
