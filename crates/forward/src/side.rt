@@ -64,8 +64,8 @@ impl Side {
     }
 
     /// Returns a forwarding table with an uncopied entry for each set bit of `live`, in order, with the address of
-    /// the same number in `places`. `live` has at most as many bits as the largest page has words. Fails only if out
-    /// of memory.
+    /// the same number in `places`. `live` has at most as many bits as the largest page has words. Finding an address
+    /// takes longer, the more often the upper 32 bits change from one address to the next. Fails only if out of memory.
     pub fn new(alloc: Global, live: Row, places: Vec<Addr, Global>) -> Result<Side, AllocError>
         requires short { length live ≤ MOST_WORDS }
         requires many { length places.items ≡ count_by (λ b. b) live }
