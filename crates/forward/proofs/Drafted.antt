@@ -1,12 +1,11 @@
 -- Drafts that become forwarding tables.
 use Rattle.std.proofs.Common.{◌≡◌, ℕ, ◌+◌, ◌*◌, ◌<◌, ◌≤◌, Bool, false, List, map, length, replicate, get_or, Option, Some, None}
-use Rattle.std.proofs.Common.{count_by, refl, sym, ◌∙◌, ap, subst, arith}
+use Rattle.std.proofs.Common.{refl, sym, ◌∙◌, ap, subst, arith}
 use Rattle.std.specs.List.{slice_get}
 use Rattle.std.specs.Prelude.{option_map}
-use Rattle.std.proofs.Math.Nat.{le-mul_of_pos_right, mul-le-mul_left}
-use Rattle.std.proofs.lemmas.List.{length-map, length-replicate}
+use Rattle.std.proofs.Math.Nat.{le-mul_of_pos_right}
 use Rattle.std.proofs.lemmas.Nat.{mul-le}
-use Rattle.std.proofs.lemmas.Option.{same_Some, slice_get-get_or, slice_get-map, slice_get_within}
+use Rattle.std.proofs.lemmas.Option.{same_Some, slice_get-get_or, slice_get-map}
 use Rattle.model.specs.Owning.{Each}
 use Rattle.model.specs.Plans.{address_in}
 use Rattle.refword.specs.Words.{IsAddress}
@@ -22,19 +21,19 @@ address_paged w n o few low high within = record {
 
 module _ (w : ℕ) (ts : List ℕ) (ps : List (ℕ × ℕ)) (few : w ≤ 32768) (low : Each ts (λ n. 0 < n))
     (high : Each ts (λ n. n ≤ 1048575)) (counted : Each ps (λ p. p.0 < length ts)) (within : Each ps (λ p. p.1 < w))
-    where
-  place_paged : (i : ℕ) (p : ℕ × ℕ) → slice_get ps i ≡ Some p → IsAddress (address_in w ts p)
-  place_paged i p e =
-      let at = slice_get-get_or ts p.0 0 (counted i p e) in
-      address_paged w (get_or ts p.0 0) p.1 few (low p.0 _ at) (high p.0 _ at) (within i p e)
+  where
+    place_paged : (i : ℕ) (p : ℕ × ℕ) → slice_get ps i ≡ Some p → IsAddress (address_in w ts p)
+    place_paged i p e =
+        let at = slice_get-get_or ts p.0 0 (counted i p e) in
+        address_paged w (get_or ts p.0 0) p.1 few (low p.0 _ at) (high p.0 _ at) (within i p e)
 
-  -- places in targets on pages have addresses
-  pub places_paged : Each (map (address_in w ts) ps) IsAddress
-  places_paged i a at = by_place (slice_get ps i) refl (sym (slice_get-map (address_in w ts) ps i) ∙ at)
-    where
-      by_place : (o : Option (ℕ × ℕ)) → slice_get ps i ≡ o → option_map (address_in w ts) o ≡ Some a → IsAddress a
-      by_place None f k = absurd (cc)
-      by_place (Some p) f k = subst IsAddress (same_Some _ _ k) (place_paged i p f)
+    -- places in targets on pages have addresses
+    pub places_paged : Each (map (address_in w ts) ps) IsAddress
+    places_paged i a at = by_place (slice_get ps i) refl (sym (slice_get-map (address_in w ts) ps i) ∙ at)
+      where
+        by_place : (o : Option (ℕ × ℕ)) → slice_get ps i ≡ o → option_map (address_in w ts) o ≡ Some a → IsAddress a
+        by_place None f k = absurd (cc)
+        by_place (Some p) f k = subst IsAddress (same_Some _ _ k) (place_paged i p f)
 
 -- the entries are those of the places on these pages
 pub settled_is : (w : ℕ) (ts : List ℕ) (d : DraftState) (live copied : List Bool) (places : List (ℕ × ℕ)) (xs : List ℕ)

@@ -1,13 +1,13 @@
--- Entries whose places and flags change.
+-- Entries whose flags change.
 use Rattle.std.proofs.Common.{◌≡◌, ◌≢◌, ◌⊎◌, inl, inr, ℕ, zero, suc, ◌+◌, ◌<◌, ◌≤◌, Bool, true, false, not, cond, List}
 use Rattle.std.proofs.Common.{[], ◌∷◌, ◌++◌, take}
-use Rattle.std.proofs.Common.{length, map, set, replicate, get_or, count_by, Some, None, refl, sym, ◌∙◌, ap}
+use Rattle.std.proofs.Common.{length, map, set, get_or, count_by, Some, None, refl, sym, ◌∙◌, ap}
 use Rattle.std.proofs.Common.{arith}
 use Rattle.std.specs.List.{slice_get}
 use Rattle.std.specs.Prelude.{option_map, nat_eq, ◌==◌}
 use Rattle.std.proofs.lemmas.Bool.Decides.{nat_tests}
 use Rattle.std.proofs.Math.ListN.{length-set}
-use Rattle.std.proofs.lemmas.List.{get_or-set_same, get_or-set_other, length-map, get_or-replicate, take_more, take_all}
+use Rattle.std.proofs.lemmas.List.{get_or-set_same, get_or-set_other, length-map, take_more, take_all}
 use Rattle.std.proofs.lemmas.List.Sums.{sum_by-cons}
 use Rattle.std.proofs.lemmas.Option.{slice_get-get_or, slice_get-map, slice_get_within, get_or_from_slice_get}
 use Rattle.std.proofs.lemmas.Bool.{cases_eq}
@@ -16,13 +16,11 @@ use Rattle.model.specs.declared.records.Forwarding.{Forwarding}
 use Rattle.model.specs.Marks.{entry_of}
 use Rattle.model.specs.Cycles.{is_uncopied}
 use Rattle.model.specs.Moves.{set_copied_of}
-use Rattle.model.specs.States.{change_at, change_found}
 use Rattle.model.specs.Plans.{offsets_from}
 use Rattle.model.proofs.Lists.{same_lists, get_set_same, get_set_other}
 use Rattle.markbits.specs.Ranks.{rank_of}
 use Rattle.forward.specs.Counts.{uncopied_in}
 use Rattle.forward.specs.Ranked.{numbered_entry, entries_of, AreEntries}
-use Rattle.forward.specs.Settling.{set_place_of}
 use Rattle.forward.proofs.Copies.{one_noted}
 use Rattle.forward.proofs.Ranked.{entry_read, entries_many, entries_rise, rank_within, ranked_offset, entry_ranked}
 
@@ -42,36 +40,6 @@ abbrev entry_by : ℕ → ℕ → Bool → Forwarding
 entry_by offset to copied = record { offset = offset; to = to; copied = copied }
 
 module _ (live : List Bool) (places : List ℕ) (copied : List Bool) where
-  -- one gets another place
-  pub placed : (i to : ℕ) → i < length places → entries_of live (set places i to) copied
-      ≡ change_at (entries_of live places copied) i (set_place_of to)
-  placed i to l =
-      changed_one v w i (numbered_entry live places copied i) (set_place_of to (numbered_entry live places copied i))
-      (entries_many live (set places i to) copied ∙ length-set places i to ∙ sym (entries_many live places copied))
-      (entry_read live places copied i l) here others
-      ∙ sym (ap (λ o. change_found v i o (set_place_of to)) (entry_read live places copied i l))
-    where
-      v : List Forwarding
-      v = entries_of live places copied
-
-      w : List Forwarding
-      w = entries_of live (set places i to) copied
-
-      longer : (j : ℕ) → j < length places → j < length (set places i to)
-      longer j m = omega (arith, m, length-set places i to)
-
-      here : slice_get w i ≡ Some (set_place_of to (numbered_entry live places copied i))
-      here = entry_read live (set places i to) copied i (longer i l)
-          ∙ ap (λ t. Some (entry_by (get_or (offsets_from 0 live) i 0) t (get_or copied i false)))
-          (get_or-set_same places i to 0 l)
-
-      others : (j : ℕ) → j < length v → j ≢ i → slice_get w j ≡ slice_get v j
-      others j m d =
-          let low : j < length places = omega (arith, m, entries_many live places copied) in
-          entry_read live (set places i to) copied j (longer j low)
-          ∙ ap (λ t. Some (entry_by (get_or (offsets_from 0 live) j 0) t (get_or copied j false)))
-          (get_or-set_other places i j to 0 d) ∙ sym (entry_read live places copied j low)
-
   module _ (is : AreEntries live places copied) where
     -- the one of an offset is copied
     pub noted : (o : ℕ) → get_or live o false ≡ true → entries_of live places (set copied (rank_of live o) true)
@@ -171,44 +139,6 @@ past_all (f ∷ fs) (suc i) l = past_all fs i (omega (arith, l))
 
 pub same_test : (n c u : ℕ) → u + c ≡ n → nat_eq n c ≡ (u == 0)
 same_test n c u e = grind (arith, nat_tests)
-
--- entries that go where a function of their offsets says, and aren't copied
-pub drafted : (f : ℕ → ℕ) (row : List Bool)
-    → entries_of row (map f (offsets_from 0 row)) (replicate (length (map f (offsets_from 0 row))) false)
-    ≡ map (λ o. entry_by o (f o) false) (offsets_from 0 row)
-drafted f row = same_lists v w (entries_many row places flags ∙ length-map offsets f ∙ sym (length-map offsets entry))
-    (λ i l. by_number i (omega (arith, l, entries_many row places flags)))
-  where
-    offsets : List ℕ
-    offsets = offsets_from 0 row
-
-    places : List ℕ
-    places = map f offsets
-
-    flags : List Bool
-    flags = replicate (length places) false
-
-    entry : ℕ → Forwarding
-    entry o = entry_by o (f o) false
-
-    v : List Forwarding
-    v = entries_of row places flags
-
-    w : List Forwarding
-    w = map entry offsets
-
-    at_number : (os : List ℕ) (i : ℕ) → i < length os → get_or (map f os) i 0 ≡ f (get_or os i 0)
-    at_number [] i l = absurd (omega (arith, l))
-    at_number (o ∷ os) zero l = refl
-    at_number (o ∷ os) (suc i) l = at_number os i (omega (arith, l))
-
-    by_number : (i : ℕ) → i < length places → slice_get v i ≡ slice_get w i
-    by_number i l =
-        let there : i < length offsets = omega (arith, l, length-map offsets f) in
-        let to : get_or places i 0 ≡ f (get_or offsets i 0) = at_number offsets i there in
-        let flag : get_or flags i false ≡ false = get_or-replicate (length places) i false false l in
-        entry_read row places flags i l ∙ (λ k. Some (entry_by (get_or offsets i 0) (to k) (flag k)))
-        ∙ sym (ap (option_map entry) (slice_get-get_or offsets i 0 there)) ∙ sym (slice_get-map entry offsets i)
 
 -- one entry more is taken
 pub taken_more : (fs done new : List Forwarding) (i : ℕ) (f : Forwarding) → slice_get fs i ≡ Some f → done ≡ take i fs

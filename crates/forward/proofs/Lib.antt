@@ -11,4 +11,3 @@ pub mod Bases
 pub mod Drafted
 pub mod Planned
 pub mod Totals
-pub mod Settling

@@ -1,5 +1,5 @@
 -- Objects are placed run by run.
-use Rattle.std.proofs.Common.{◌≡◌, ◌≢◌, ℕ, zero, suc, ◌+◌, ◌-◌, ◌^◌, ◌<◌, ◌≤◌, Bool, true, false, cond, nat_le, List, [], ◌∷◌}
+use Rattle.std.proofs.Common.{◌≡◌, ℕ, zero, suc, ◌+◌, ◌-◌, ◌^◌, ◌<◌, ◌≤◌, Bool, true, false, cond, nat_le, List, [], ◌∷◌}
 use Rattle.std.proofs.Common.{◌++◌, length, take, drop, Some, refl, sym, ◌∙◌, ap, ap₂, subst, arith}
 use Rattle.std.specs.Prelude.{◌==◌}
 use Rattle.std.specs.List.{slice_get, sum_by}
@@ -150,135 +150,135 @@ with_offset t o = (t, o)
 module _ (w : ℕ) (end : ℕ × ℕ) (ns : List ℕ) (i n : ℕ) (first last : Run) (more : List Run) (at p : ℕ × ℕ) (r : Run)
     (h : ArePlaced w end ns i first last more at) (e : slice_get ns i ≡ Some n) (next : p ≡ next_place w at n)
     (is : r ≡ record { first = i; before = words_before ns i; target = p.0; offset = p.1 }) (few : r.before < 2 ^ 32)
-    where
-  one : suc i ≡ i + 1
-  one = omega arith
+  where
+    one : suc i ≡ i + 1
+    one = omega arith
 
-  words : words_before ns (i + 1) ≡ words_before ns i + n
-  words = ap (words_before ns) (sym one) ∙ before_more ns i n e
+    words : words_before ns (i + 1) ≡ words_before ns i + n
+    words = ap (words_before ns) (sym one) ∙ before_more ns i n e
 
-  -- with runs in which it has its place
-  places_with : (more2 : List Run) → places_in first more2 0 0 (take i ns) ≡ places_in first more 0 0 (take i ns)
-      → place_in (run_of first more2 i) (words_before ns i) ≡ p
-      → places_in first more 0 0 (take i ns) ++ p ∷ [] ≡ places_in first more2 0 0 (take (i + 1) ns)
-  places_with more2 before this =
-      ap₂ (λ xs q. xs ++ q ∷ []) (sym before) (sym this)
-      ∙ sym (places_more first more2 0 0 i (words_before ns i) (take i ns) n
-      (omega (arith, taken_many ns i n e)) (omega arith))
-      ∙ ap (places_in first more2 0 0) (sym (taken ns i n e) ∙ ap (λ k. take k ns) one)
+    -- with runs in which it has its place
+    places_with : (more2 : List Run) → places_in first more2 0 0 (take i ns) ≡ places_in first more 0 0 (take i ns)
+        → place_in (run_of first more2 i) (words_before ns i) ≡ p
+        → places_in first more 0 0 (take i ns) ++ p ∷ [] ≡ places_in first more2 0 0 (take (i + 1) ns)
+    places_with more2 before this =
+        ap₂ (λ xs q. xs ++ q ∷ []) (sym before) (sym this)
+        ∙ sym (places_more first more2 0 0 i (words_before ns i) (take i ns) n
+        (omega (arith, taken_many ns i n e)) (omega arith))
+        ∙ ap (places_in first more2 0 0) (sym (taken ns i n e) ∙ ap (λ k. take k ns) one)
 
-  counted_with : (more2 : List Run) → places_in first more2 0 0 (take i ns) ≡ places_in first more 0 0 (take i ns)
-      → place_in (run_of first more2 i) (words_before ns i) ≡ p
-      → target_count (places_in first more2 0 0 (take (i + 1) ns)) ≡ p.0 + 1
-  counted_with more2 before this =
-      ap target_count (sym (places_with more2 before this)) ∙ counted_last (places_in first more 0 0 (take i ns)) p
+    counted_with : (more2 : List Run) → places_in first more2 0 0 (take i ns) ≡ places_in first more 0 0 (take i ns)
+        → place_in (run_of first more2 i) (words_before ns i) ≡ p
+        → target_count (places_in first more2 0 0 (take (i + 1) ns)) ≡ p.0 + 1
+    counted_with more2 before this =
+        ap target_count (sym (places_with more2 before this)) ∙ counted_last (places_in first more 0 0 (take i ns)) p
 
-  placed_with : (more2 : List Run) → places_in first more2 0 0 (take i ns) ≡ places_in first more 0 0 (take i ns)
-      → place_in (run_of first more2 i) (words_before ns i) ≡ p
-      → (ms : List ℕ) → places_from w end.0 end.1 (ns ++ ms)
-      ≡ places_in first more2 0 0 (take (i + 1) ns) ++ places_from w p.0 (p.1 + n) (drop (i + 1) ns ++ ms)
-  placed_with more2 before this ms =
-      h.placed ms
-      ∙ ap (λ ys. places_in first more 0 0 (take i ns) ++ places_from w at.0 at.1 (ys ++ ms))
-      (dropped ns i n e ∙ ap (λ k. n ∷ drop k ns) one)
-      ∙ ap (λ xs. places_in first more 0 0 (take i ns) ++ xs) (placed_first w at n (drop (i + 1) ns ++ ms)
-      ∙ ap (λ (q : ℕ × ℕ). q ∷ places_from w q.0 (q.1 + n) (drop (i + 1) ns ++ ms)) (sym next))
-      ∙ sym (append_assoc (places_in first more 0 0 (take i ns)) (p ∷ [])
-      (places_from w p.0 (p.1 + n) (drop (i + 1) ns ++ ms)))
-      ∙ ap (λ xs. xs ++ places_from w p.0 (p.1 + n) (drop (i + 1) ns ++ ms)) (places_with more2 before this)
+    placed_with : (more2 : List Run) → places_in first more2 0 0 (take i ns) ≡ places_in first more 0 0 (take i ns)
+        → place_in (run_of first more2 i) (words_before ns i) ≡ p
+        → (ms : List ℕ) → places_from w end.0 end.1 (ns ++ ms)
+        ≡ places_in first more2 0 0 (take (i + 1) ns) ++ places_from w p.0 (p.1 + n) (drop (i + 1) ns ++ ms)
+    placed_with more2 before this ms =
+        h.placed ms
+        ∙ ap (λ ys. places_in first more 0 0 (take i ns) ++ places_from w at.0 at.1 (ys ++ ms))
+        (dropped ns i n e ∙ ap (λ k. n ∷ drop k ns) one)
+        ∙ ap (λ xs. places_in first more 0 0 (take i ns) ++ xs) (placed_first w at n (drop (i + 1) ns ++ ms)
+        ∙ ap (λ (q : ℕ × ℕ). q ∷ places_from w q.0 (q.1 + n) (drop (i + 1) ns ++ ms)) (sym next))
+        ∙ sym (append_assoc (places_in first more 0 0 (take i ns)) (p ∷ [])
+        (places_from w p.0 (p.1 + n) (drop (i + 1) ns ++ ms)))
+        ∙ ap (λ xs. xs ++ places_from w p.0 (p.1 + n) (drop (i + 1) ns ++ ms)) (places_with more2 before this)
 
-  -- the object's target is the last run's
-  same_run : last.target ≡ p.0 → ArePlaced w end ns (i + 1) first last more (p.0, p.1 + n)
-  same_run same = record {
-    placed = placed_with more refl this;
-    ends = h.ends;
-    begun = begun_more more i (i + 1) refl h.begun;
-    here = here;
-    low = omega (arith, h.low, words);
-    knows = h.knows;
-    counted = λ l. counted_with more refl this;
-    near = omega (arith, h.near, ap (λ (q : ℕ × ℕ). q.0) there);
-  }
-    where
-      by_test : (b : Bool) → nat_le (at.1 + n) w ≡ b → p ≡ cond b at (at.0 + 1, 0) → p ≡ at
-      by_test true f k = k
-      by_test false f k = absurd (omega (
-        arith,
-        same,
-        ap (λ (q : ℕ × ℕ). q.0) k,
-        ap (λ (q : ℕ × ℕ). q.0) h.here,
-      ))
+    -- the object's target is the last run's
+    same_run : last.target ≡ p.0 → ArePlaced w end ns (i + 1) first last more (p.0, p.1 + n)
+    same_run same = record {
+      placed = placed_with more refl this;
+      ends = h.ends;
+      begun = begun_more more i (i + 1) refl h.begun;
+      here = here;
+      low = omega (arith, h.low, words);
+      knows = h.knows;
+      counted = λ l. counted_with more refl this;
+      near = omega (arith, h.near, ap (λ (q : ℕ × ℕ). q.0) there);
+    }
+      where
+        by_test : (b : Bool) → nat_le (at.1 + n) w ≡ b → p ≡ cond b at (at.0 + 1, 0) → p ≡ at
+        by_test true f k = k
+        by_test false f k = absurd (omega (
+          arith,
+          same,
+          ap (λ (q : ℕ × ℕ). q.0) k,
+          ap (λ (q : ℕ × ℕ). q.0) h.here,
+        ))
 
-      there : p ≡ at
-      there = by_test (nat_le (at.1 + n) w) refl next
+        there : p ≡ at
+        there = by_test (nat_le (at.1 + n) w) refl next
 
-      this : place_in (run_of first more i) (words_before ns i) ≡ p
-      this = ap (λ q. place_in q (words_before ns i)) (run_last first more i i h.begun (omega arith) ∙ sym h.ends)
-          ∙ sym h.here ∙ sym there
+        this : place_in (run_of first more i) (words_before ns i) ≡ p
+        this = ap (λ q. place_in q (words_before ns i)) (run_last first more i i h.begun (omega arith) ∙ sym h.ends)
+            ∙ sym h.here ∙ sym there
 
-      here : (p.0, p.1 + n) ≡ place_in last (words_before ns (i + 1))
-      here =
-          let offset : p.1 + n ≡ last.offset + (words_before ns (i + 1) - last.before) = omega (
-            arith,
-            words,
-            h.low,
-            ap (λ (q : ℕ × ℕ). q.1) there,
-            ap (λ (q : ℕ × ℕ). q.1) h.here,
-          ) in
-          let run : p.0 ≡ last.target = sym same in (λ k. (run k, offset k))
+        here : (p.0, p.1 + n) ≡ place_in last (words_before ns (i + 1))
+        here =
+            let offset : p.1 + n ≡ last.offset + (words_before ns (i + 1) - last.before) = omega (
+              arith,
+              words,
+              h.low,
+              ap (λ (q : ℕ × ℕ). q.1) there,
+              ap (λ (q : ℕ × ℕ). q.1) h.here,
+            ) in
+            let run : p.0 ≡ last.target = sym same in (λ k. (run k, offset k))
 
-  -- it is another one
-  new_run : ArePlaced w end ns (i + 1) first r (more ++ r ∷ []) (p.0, p.1 + n)
-  new_run = record {
-    placed = placed_with (more ++ r ∷ []) before this;
-    ends = sym (last_is first more r);
-    begun = begun;
-    here = subst (λ q. (p.0, p.1 + n) ≡ place_in q (words_before ns (i + 1))) (sym is) here;
-    low = omega (arith, words, ap (λ (q : Run). q.before) is);
-    knows = knows_more ns more r h.knows
-        (omega (arith, ap (λ (q : Run). q.before) is, ap (λ (q : Run). words_before ns q.first) is)) few;
-    counted = λ l. counted_with (more ++ r ∷ []) before this;
-    near = by_test (nat_le (at.1 + n) w) next;
-  }
-    where
-      begun : Begun (more ++ r ∷ []) (i + 1)
-      begun = begun_with more r i (i + 1) refl (ap (λ (q : Run). q.first) is) h.begun
+    -- it is another one
+    new_run : ArePlaced w end ns (i + 1) first r (more ++ r ∷ []) (p.0, p.1 + n)
+    new_run = record {
+      placed = placed_with (more ++ r ∷ []) before this;
+      ends = sym (last_is first more r);
+      begun = begun;
+      here = subst (λ q. (p.0, p.1 + n) ≡ place_in q (words_before ns (i + 1))) (sym is) here;
+      low = omega (arith, words, ap (λ (q : Run). q.before) is);
+      knows = knows_more ns more r h.knows
+          (omega (arith, ap (λ (q : Run). q.before) is, ap (λ (q : Run). words_before ns q.first) is)) few;
+      counted = λ l. counted_with (more ++ r ∷ []) before this;
+      near = by_test (nat_le (at.1 + n) w) next;
+    }
+      where
+        begun : Begun (more ++ r ∷ []) (i + 1)
+        begun = begun_with more r i (i + 1) refl (ap (λ (q : Run). q.first) is) h.begun
 
-      before : places_in first (more ++ r ∷ []) 0 0 (take i ns) ≡ places_in first more 0 0 (take i ns)
-      before =
-          places_before first more r 0 0 (take i ns) (omega (arith, taken_many ns i n e, ap (λ (q : Run). q.first) is))
+        before : places_in first (more ++ r ∷ []) 0 0 (take i ns) ≡ places_in first more 0 0 (take i ns)
+        before =
+            places_before first more r 0 0 (take i ns) (omega (arith, taken_many ns i n e, ap (λ (q : Run). q.first) is))
 
-      there : with_offset p.0 (p.1 + (words_before ns i - words_before ns i)) ≡ p
-      there =
-          let same : p.1 + (words_before ns i - words_before ns i) ≡ p.1 = omega arith in
-          ap (λ o. with_offset p.0 o) same
+        there : with_offset p.0 (p.1 + (words_before ns i - words_before ns i)) ≡ p
+        there =
+            let same : p.1 + (words_before ns i - words_before ns i) ≡ p.1 = omega arith in
+            ap (λ o. with_offset p.0 o) same
 
-      this : place_in (run_of first (more ++ r ∷ []) i) (words_before ns i) ≡ p
-      this = ap (λ q. place_in q (words_before ns i)) (run_last first (more ++ r ∷ []) (i + 1) i begun (omega arith)
-          ∙ last_is first more r ∙ is) ∙ there
+        this : place_in (run_of first (more ++ r ∷ []) i) (words_before ns i) ≡ p
+        this = ap (λ q. place_in q (words_before ns i)) (run_last first (more ++ r ∷ []) (i + 1) i begun (omega arith)
+            ∙ last_is first more r ∙ is) ∙ there
 
-      here : with_offset p.0 (p.1 + n) ≡ with_offset p.0 (p.1 + (words_before ns (i + 1) - words_before ns i))
-      here =
-          let same : p.1 + n ≡ p.1 + (words_before ns (i + 1) - words_before ns i) = omega (arith, words) in
-          ap (λ o. with_offset p.0 o) same
+        here : with_offset p.0 (p.1 + n) ≡ with_offset p.0 (p.1 + (words_before ns (i + 1) - words_before ns i))
+        here =
+            let same : p.1 + n ≡ p.1 + (words_before ns (i + 1) - words_before ns i) = omega (arith, words) in
+            ap (λ o. with_offset p.0 o) same
 
-      by_test : (b : Bool) → p ≡ cond b at (at.0 + 1, 0) → p.0 ≤ end.0 + (i + 1)
-      by_test true k = omega (arith, h.near, ap (λ (q : ℕ × ℕ). q.0) k)
-      by_test false k = omega (arith, h.near, ap (λ (q : ℕ × ℕ). q.0) k)
+        by_test : (b : Bool) → p ≡ cond b at (at.0 + 1, 0) → p.0 ≤ end.0 + (i + 1)
+        by_test true k = omega (arith, h.near, ap (λ (q : ℕ × ℕ). q.0) k)
+        by_test false k = omega (arith, h.near, ap (λ (q : ℕ × ℕ). q.0) k)
 
-  -- whichever it is
-  pub placed_next : (last2 : Run) (more2 : List Run) (at2 : ℕ × ℕ) → last2 ≡ last_with last r
-      → more2 ≡ runs_with more last r → at2 ≡ (p.0, p.1 + n) → ArePlaced w end ns (i + 1) first last2 more2 at2
-  placed_next last2 more2 at2 f g k =
-      subst (λ x. ArePlaced w end ns (i + 1) first last2 more2 x) (sym k)
-      (subst (λ x. ArePlaced w end ns (i + 1) first x more2 (p.0, p.1 + n)) (sym f)
-      (subst (λ x. ArePlaced w end ns (i + 1) first (last_with last r) x (p.0, p.1 + n)) (sym g)
-      (by_test (last.target == r.target) refl)))
-    where
-      by_test : (b : Bool) → (last.target == r.target) ≡ b
-          → ArePlaced w end ns (i + 1) first (cond b last r) (cond b more (more ++ r ∷ [])) (p.0, p.1 + n)
-      by_test true c = same_run (grind (arith, nat_tests, c, ap (λ (q : Run). q.target) is))
-      by_test false c = new_run
+    -- whichever it is
+    pub placed_next : (last2 : Run) (more2 : List Run) (at2 : ℕ × ℕ) → last2 ≡ last_with last r
+        → more2 ≡ runs_with more last r → at2 ≡ (p.0, p.1 + n) → ArePlaced w end ns (i + 1) first last2 more2 at2
+    placed_next last2 more2 at2 f g k =
+        subst (λ x. ArePlaced w end ns (i + 1) first last2 more2 x) (sym k)
+        (subst (λ x. ArePlaced w end ns (i + 1) first x more2 (p.0, p.1 + n)) (sym f)
+        (subst (λ x. ArePlaced w end ns (i + 1) first (last_with last r) x (p.0, p.1 + n)) (sym g)
+        (by_test (last.target == r.target) refl)))
+      where
+        by_test : (b : Bool) → (last.target == r.target) ≡ b
+            → ArePlaced w end ns (i + 1) first (cond b last r) (cond b more (more ++ r ∷ [])) (p.0, p.1 + n)
+        by_test true c = same_run (grind (arith, nat_tests, c, ap (λ (q : Run). q.target) is))
+        by_test false c = new_run
 
 -- all are placed
 pub all_placed : (w : ℕ) (end : ℕ × ℕ) (ns : List ℕ) (i : ℕ) (first last : Run) (more : List Run) (at : ℕ × ℕ)

@@ -1,6 +1,6 @@
 -- Places, one after the other.
-use Rattle.std.proofs.Common.{◌≡◌, ℕ, ◌+◌, ◌<◌, ◌≤◌, List, [], ◌∷◌, ◌++◌, drop, length}
-use Rattle.std.proofs.Common.{refl, sym, ◌∙◌, ap, arith, length-append, ◌⊎◌, inl, inr}
+use Rattle.std.proofs.Common.{◌≡◌, ℕ, ◌+◌, ◌≤◌, List, [], ◌∷◌, ◌++◌, drop, length}
+use Rattle.std.proofs.Common.{refl, sym, ◌∙◌, ap, arith, length-append}
 use Rattle.std.proofs.lemmas.List.{drop_all, append-nil}
 use Rattle.model.specs.Plans.{places_from, target_count}
 use Rattle.forward.specs.Planning.{PlanningState, planned}
@@ -11,21 +11,12 @@ last_target [] t o = refl
 last_target (p ∷ []) t o = refl
 last_target (p ∷ q ∷ ps) t o = last_target (q ∷ ps) t o
 
--- where n words go: to the head of the next target, where they don't fit behind the last, and else there
-abbrev pub Goes : (words target offset n t o : ℕ) → Type 0
-Goes words target offset n t o =
-    ((words < offset + n) × (t ≡ target + 1) × (o ≡ 0)) ⊎ ((offset + n ≤ words) × (t ≡ target) × (o ≡ offset))
-
 -- one more object is in the last target
-pub counted_more : (words target offset n t o : ℕ) (ps new : List (ℕ × ℕ)) → Goes words target offset n t o
-    → target ≤ length ps → new ≡ ps ++ (t, o) ∷ [] → (t + 1 ≡ target_count new) × (t ≤ length new)
-counted_more words target offset n t o ps new goes low put =
+pub counted_more : (t o : ℕ) (ps new : List (ℕ × ℕ)) → t ≤ length ps + 1 → new ≡ ps ++ (t, o) ∷ []
+    → (t + 1 ≡ target_count new) × (t ≤ length new)
+counted_more t o ps new low put =
     let last = sym (ap target_count put ∙ last_target ps t o) in
-    (last, omega (arith, by_case goes, ap length put, length-append ps ((t, o) ∷ [])))
-  where
-    by_case : Goes words target offset n t o → t ≤ length ps + 1
-    by_case (inl k) = omega (arith, low, k.1)
-    by_case (inr k) = omega (arith, low, k.1)
+    (last, omega (arith, low, ap length put, length-append ps ((t, o) ∷ [])))
 
 -- if the places of the sizes from i on follow, and none is left, these are all places
 pub placed_all : (words i : ℕ) (sizes : List ℕ) (p : PlanningState) → length sizes ≤ i

@@ -1,5 +1,5 @@
 -- Addresses as distances from bases: consecutive ones have one base.
-use Rattle.std.specs.Prelude.{◌≡◌, ℕ, ◌+◌, ◌-◌, ◌*◌, ◌%◌, ◌^◌, ◌<◌, ◌≤◌, List, [], ◌∷◌, nat_le, get_or, if◌then◌else◌}
+use Rattle.std.specs.Prelude.{◌≡◌, ℕ, ◌+◌, ◌-◌, ◌*◌, ◌%◌, ◌^◌, ◌≤◌, List, [], ◌∷◌, nat_le, get_or, if◌then◌else◌}
 use Rattle.forward.specs.declared.runs.Run.{Run}
 
 -- the base of address i: that of the last run that doesn't begin behind it

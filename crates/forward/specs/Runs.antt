@@ -1,5 +1,5 @@
 -- The places of a page's objects, by runs: consecutive objects that go to one target, one directly after the other.
-use Rattle.std.specs.Prelude.{ℕ, ◌+◌, ◌-◌, ◌^◌, ◌<◌, ◌≤◌, ◌==◌, ◌++◌, List, [], ◌∷◌, nat_le, get_or, if◌then◌else◌}
+use Rattle.std.specs.Prelude.{ℕ, ◌+◌, ◌-◌, ◌^◌, ◌<◌, ◌≤◌, ◌==◌, ◌++◌, List, [], ◌∷◌, nat_le, if◌then◌else◌}
 use Rattle.forward.specs.Sizes.{words_before}
 use Rattle.forward.specs.declared.runs.Run.{Run}
 

@@ -12,7 +12,6 @@ mod sizes;
 
 pub use draft::Draft;
 pub use plan::{Plan, Slot};
-pub use planning::Planning;
 pub use runs::Runs;
 pub use side::Side;
 pub use sides::Sides;

@@ -4,17 +4,16 @@ ghost use Rattle.std.specs.Prelude.{◌≡◌, ◌∷◌, ℕ, List, IfOk, OnOk}
 ghost use Rattle.forward.specs.Planning.{none_planned, planned};
 
 use crate::plan::{Plan, Slot};
+use crate::runs::next_place;
 use std::alloc::{AllocError, Global};
 use std::marker::Model;
 
 /// Places that are planned object by object, and where the next object goes if it fits there.
 #[derive(Debug, Drop)]
-pub struct Planning {
+pub(crate) struct Planning {
     slots: Vec<Slot, Global>,
-    /// The last target, from 0.
-    target: usize,
-    /// The words of it that are taken.
-    offset: u32,
+    /// Where the last object ends.
+    end: Slot,
     /// How many targets the places are in.
     count: usize,
 }
@@ -26,9 +25,9 @@ impl Model for Planning {
 
     ghost Value = { PlanningState };
 
-    ghost view = { λ p. record { places = p.slots.items; target = p.target; offset = p.offset } };
+    ghost view = { λ p. record { places = p.slots.items; target = p.end.0; offset = p.end.1 } };
 
-    ghost invariant = { λ p. (p.count ≡ target_count p.slots.items) × (p.target ≤ length p.slots.items) };
+    ghost invariant = { λ p. (p.count ≡ target_count p.slots.items) × (p.end.0 ≤ length p.slots.items) };
 }
 
 impl Planning {
@@ -38,8 +37,7 @@ impl Planning {
     {
         Ok(Planning {
             slots: Vec::with_capacity(alloc, count)?,
-            target: 0,
-            offset: 0,
+            end: Slot::first(),
             count: 0,
         })
     }
@@ -50,16 +48,13 @@ impl Planning {
     pub fn push(&mut self, words: u32, size: u32) -> Result<(), AllocError>
         ensures { OnOk result ((ns : List ℕ) → planned words self.new ns ≡ planned words self.old (size ∷ ns)) }
     {
-        let mut target = self.target;
-        let mut offset = self.offset;
-        if u64::from(offset) + u64::from(size) > u64::from(words) {
-            target += 1;
-            offset = 0;
-        }
-        self.slots.push(Slot { target, offset })?;
-        self.target = target;
-        self.offset = offset + size;
-        self.count = target + 1;
+        let place = next_place(words, self.end, size);
+        self.slots.push(place)?;
+        self.end = Slot {
+            target: place.target,
+            offset: place.offset + size,
+        };
+        self.count = place.target + 1;
         Ok(())
     }
 

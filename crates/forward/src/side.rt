@@ -64,8 +64,8 @@ impl Side {
     }
 
     /// Returns a forwarding table with an uncopied entry for each set bit of `live`, in order, with the address of
-    /// the same number in `places`. `live` has at most as many bits as the largest page has words. Fails only if out
-    /// of memory.
+    /// the same number in `places`. `live` has at most as many bits as the largest page has words. Finding an address
+    /// takes longer, the more often the upper 32 bits change from one address to the next. Fails only if out of memory.
     pub fn new(alloc: Global, live: Row, places: Vec<Addr, Global>) -> Result<Side, AllocError>
         requires short { length live ≤ MOST_WORDS }
         requires many { length places.items ≡ count_by (λ b. b) live }
@@ -75,13 +75,7 @@ impl Side {
         let copied = Row::new(alloc, live.count() as u32)?;
         let live = RankedRow::new(alloc, live)?;
         let places = Places::listed(alloc, &places)?;
-        Ok(Side {
-            live,
-            places,
-            copied,
-            last: 0,
-            number: u32::MAX,
-        })
+        Ok(Side::of(live, places, copied))
     }
 
     /// Returns a forwarding table of these parts: a bitmap of the entries' offsets, their new addresses, and which of
@@ -204,7 +198,7 @@ impl Side {
         self.live.test(offset as usize)
     }
 
-    /// Returns the entry of an offset, or `None`: found by one bit, one number and one word.
+    /// Returns the entry of an offset, or `None`: found by one bit, one rank, and one distance from a base.
     pub fn find(&self, offset: u32) -> Option<Forwarding>
         ensures { result ≡ entry_of self.now offset }
     {

@@ -106,6 +106,7 @@ impl Sizes {
     pub(crate) fn into_sums(self) -> Vec<u32, Global>
         ensures { result.items ≡ sums_of 0 self }
     {
-        self.before
+        let Sizes { before, .. } = self;
+        before
     }
 }

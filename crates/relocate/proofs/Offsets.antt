@@ -25,11 +25,6 @@ module _ (h : HeapState) (n : ℕ) (low : 0 < n) where
   pub row_live : (r : List Bool) → slice_get h.live (n - 1) ≡ Some r → r ≡ of_page h.live n
   row_live r e = sym (of_page_some h.live n r low e)
 
-  pub live_sized : (r : List Bool) → slice_get h.live (n - 1) ≡ Some r
-      → map (draft_size h n) (offsets_from 0 r) ≡ draft_sizes h n
-  unfolding live_offsets
-  live_sized r e = ap (λ row. map (draft_size h n) (offsets_from 0 row)) (row_live r e)
-
   -- the live bitmap of a page has no more bits than the page has words
   pub row_sized : (r : List Bool) → IsHeap h → slice_get h.live (n - 1) ≡ Some r → length r ≤ h.store.words
   row_sized r i e = row_short h.store h.live (n - 1) r i.live e

@@ -260,13 +260,6 @@ pub result_drafted : {E : Type 0} (h : HeapState) (n : ℕ) (row : List Bool) (r
 result_drafted h n row (Err e) is live many = tt
 result_drafted h n row (Ok d) is live many = record { live = live ∙ is; many = many }
 
-pub result_placed : {E : Type 0} (w : ℕ) (from to : ℕ × ℕ) (sizes page : List ℕ) (r : Result DraftState E) → sizes ≡ page
-    → IfOk r (λ d. (ns : List ℕ) → places_from w from.0 from.1 (sizes ++ ns) ≡ d.places ++ places_from w to.0 to.1 ns)
-    → IfOk r (λ d. (ns : List ℕ) → places_from w from.0 from.1 (page ++ ns) ≡ d.places ++ places_from w to.0 to.1 ns)
-result_placed w from to sizes page (Err e) is h = tt
-result_placed w from to sizes page (Ok d) is h = λ ns.
-    ap (λ xs. places_from w from.0 from.1 (xs ++ ns)) (sym is) ∙ h ns
-
 -- one of no objects is one of a page without any
 pub none_drafted : (h : HeapState) (n : ℕ) (d : DraftState) → d ≡ record { live = []; places = [] }
     → [] ≡ of_page h.live n → IsDraftOf h n d

@@ -24,12 +24,7 @@ fn settle_page(heap: &mut Heap, page: u32, draft: Draft, targets: &[u32])
 }
 
 /// Gives pages the forwarding tables that their drafts become, in the pages' order. The drafts in the list are lost.
-pub(crate) fn settle_pages(
-    heap: &mut Heap,
-    pages: &[u32],
-    drafts: &mut Vec<Draft>,
-    targets: &[u32],
-)
+pub(crate) fn settle_pages(heap: &mut Heap, pages: &[u32], drafts: &mut Vec<Draft>, targets: &[u32])
     requires many { length drafts.old.items ≡ length pages.now }
     requires ready { Each drafts.old.items (IsReadyFor heap.old.store.words (length targets.now)) }
     requires low { Each targets.now (λ n. 0 < n) }

@@ -97,14 +97,15 @@ fn finds_each(rt: &impl Abort, side: &Side, entries: &[Forwarding]) {
     same(rt, side.len(), entries.len());
 }
 
-/// Returns entries at some offsets of a page, each of which goes anywhere: at those for which a pseudorandom number
-/// has the bits of `mask` clear.
+/// Returns entries at some offsets of a page: at those for which a pseudorandom number has the bits of `mask` clear.
+/// Each goes anywhere in a range of 2^32 addresses, of which there is one for each 4,096 offsets.
 fn listed(alloc: Global, words: u32, mask: u64) -> Result<Vec<Forwarding>, Fail> {
     let mut entries = Vec::new(alloc);
     let mut number = u64::from(words);
     for offset in 0..words {
         number = scatter(number);
-        let to = Addr::new(number >> 24).ok_or("no address")?;
+        let range = u64::from(offset / 4_096) << 32;
+        let to = Addr::new(range | number >> 32).ok_or("no address")?;
         if (number >> 33) & mask == 0 {
             entries.push(Forwarding {
                 offset,

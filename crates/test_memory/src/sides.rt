@@ -178,6 +178,43 @@ fn a_side_array_of_nothing(rt: HostRuntime) {
     assert!(rt; side.is_copied());
 }
 
+/// Offsets of objects, and where they go: to both sides of 2^32, and back.
+const FAR: [(u32, u64); 5] = [
+    (0, 40),
+    (3, 4_294_967_295),
+    (4, 4_294_967_296),
+    (9, 17_179_869_191),
+    (15, 96),
+];
+
+/// The objects of a forwarding table go there, by their offsets and by their numbers.
+fn goes_far(rt: &impl Abort, side: &Side) {
+    for (index, wanted) in FAR.iter().enumerate() {
+        let (offset, to) = *wanted;
+        let found = side.find(offset).map(|entry| entry.to.number());
+        same_at(rt, index, found, Some(to));
+        let entry = side
+            .entry(index)
+            .map(|entry| (entry.offset, entry.to.number()));
+        same_at(rt, index, entry, Some(*wanted));
+        let place = side.place(index).map(|place| place.number());
+        same_at(rt, index, place, Some(to));
+    }
+    same(rt, side.place(FAR.len()), None);
+}
+
+#[test]
+fn a_side_array_of_far_places(rt: HostRuntime) -> Result<(), Fail> {
+    let alloc = rt.alloc();
+    let mut places = Vec::with_capacity(alloc, FAR.len())?;
+    for (_offset, to) in FAR {
+        places.push(Addr::new(to).ok_or("no address")?)?;
+    }
+    let side = side_of(alloc, live(alloc, &OFFSETS)?, places)?;
+    goes_far(&rt, &side);
+    Ok(())
+}
+
 const PAGES: [u32; 6] = [0, 1, 2, 3, 4, u32::MAX];
 
 /// Where the object at offset 9 of each of these pages goes, if it is to go.

@@ -1,7 +1,6 @@
-use Rattle.std.proofs.Common.{◌-◌, ◌++◌, ◌∙◌, List, ℕ, [], ap, sym, refl}
+use Rattle.std.proofs.Common.{◌-◌, ◌∙◌, ap, sym}
 use Rattle.std.specs.List.{slice_get}
 use Rattle.std.specs.Option.{option_copied}
-use Rattle.model.specs.Plans.{places_from}
 use Rattle.relocate.proofs.Offsets.{none_live, none_sized, row_live, row_sized}
 use Rattle.relocate.proofs.Planning.{none_drafted, none_placed, result_drafted}
 use Rattle.relocate.proofs.drafting.draft_page.Goals as goal

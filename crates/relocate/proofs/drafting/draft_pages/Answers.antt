@@ -1,5 +1,5 @@
-use Rattle.std.proofs.Common.{refl, sym, arith}
-use Rattle.relocate.proofs.Planning.{all_drafted, all_planned, made_next, objects_planned, targets_planned}
+use Rattle.std.proofs.Common.{refl, arith}
+use Rattle.relocate.proofs.Planning.{all_planned, made_next, objects_planned, targets_planned}
 use Rattle.relocate.proofs.drafting.draft_pages.Goals as goal
 
 pub loop-index-preserved : goal.loop-index-preserved

@@ -1,4 +1,4 @@
-use Rattle.std.proofs.Common.{◌+◌, ◌%◌, ◌^◌, ◌≡◌, ◌∙◌, get_or, ap, arith, length, refl, subst, sym}
+use Rattle.std.proofs.Common.{◌+◌, ◌%◌, ◌^◌, ◌∙◌, ap, arith, length, refl, subst, sym}
 use Rattle.std.specs.Option.{IsSome}
 use Rattle.std.proofs.lemmas.Option.{same_Some}
 use Rattle.refword.specs.Words.{IsAddress}

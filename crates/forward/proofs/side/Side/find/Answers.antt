@@ -1,4 +1,4 @@
-use Rattle.std.proofs.Common.{◌∙◌, sym, ap, arith}
+use Rattle.std.proofs.Common.{◌∙◌, sym, ap}
 use Rattle.model.specs.Marks.{entry_of}
 use Rattle.forward.proofs.Edited.{found_is}
 use Rattle.forward.proofs.Ranked.{none_ranked, rank_within}

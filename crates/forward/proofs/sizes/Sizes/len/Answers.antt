@@ -1,4 +1,4 @@
-use Rattle.std.proofs.Common.{◌∙◌, ap, arith, length}
+use Rattle.std.proofs.Common.{ap, arith, length}
 use Rattle.forward.proofs.Summed.{sizes_many}
 use Rattle.forward.proofs.sizes.Sizes.len.Goals as goal
 
