@@ -1,13 +1,13 @@
 -- Objects are placed run by run.
 use Rattle.std.proofs.Common.{◌≡◌, ℕ, zero, suc, ◌+◌, ◌-◌, ◌^◌, ◌<◌, ◌≤◌, Bool, true, false, cond, nat_le, List, [], ◌∷◌}
-use Rattle.std.proofs.Common.{◌++◌, length, take, drop, Some, refl, sym, ◌∙◌, ap, ap₂, subst, arith}
+use Rattle.std.proofs.Common.{◌++◌, length, take, drop, get_or, Some, refl, sym, ◌∙◌, ap, ap₂, subst, arith}
 use Rattle.std.specs.Prelude.{◌==◌}
 use Rattle.std.specs.List.{slice_get, sum_by}
 use Rattle.std.proofs.lemmas.Bool.{leb-true, leb-false}
 use Rattle.std.proofs.lemmas.Bool.Decides.{nat_tests}
 use Rattle.std.proofs.lemmas.List.{append_assoc, drop_all, take_all}
 use Rattle.std.proofs.lemmas.List.Sums.{sum_by-cons}
-use Rattle.std.proofs.lemmas.Option.{same_Some}
+use Rattle.std.proofs.lemmas.Option.{same_Some, slice_get-get_or}
 use Rattle.model.specs.Plans.{places_from, target_count}
 use Rattle.forward.specs.declared.runs.Run.{Run}
 use Rattle.forward.specs.Runs.{AreBegun, last_with, next_place, place_in, places_in, run_of, runs_with}
@@ -143,7 +143,7 @@ none_placed w end ns r e = subst (λ x. ArePlaced w end ns 0 x x [] end) (sym e)
 })
 
 -- a place by its parts
-abbrev with_offset : ℕ → ℕ → ℕ × ℕ
+abbrev pub with_offset : ℕ → ℕ → ℕ × ℕ
 with_offset t o = (t, o)
 
 -- one object more is placed
@@ -279,6 +279,52 @@ module _ (w : ℕ) (end : ℕ × ℕ) (ns : List ℕ) (i n : ℕ) (first last : 
             → ArePlaced w end ns (i + 1) first (cond b last r) (cond b more (more ++ r ∷ [])) (p.0, p.1 + n)
         by_test true c = same_run (grind (arith, nat_tests, c, ap (λ (q : Run). q.target) is))
         by_test false c = new_run
+
+-- objects up to another one fit where those before them end: they go there too
+pub placed_up_to : (w : ℕ) (end : ℕ × ℕ) (ns : List ℕ) (i j k : ℕ) (first last : Run) (more : List Run) (at to : ℕ × ℕ)
+    → ArePlaced w end ns i first last more at → j ≡ i + k → j ≤ length ns → words_before ns j < 2 ^ 32
+    → at.1 + (words_before ns j - words_before ns i) ≤ w
+    → to ≡ with_offset at.0 (at.1 + (words_before ns j - words_before ns i)) → ArePlaced w end ns j first last more to
+placed_up_to w end ns i j zero first last more at to h e l few fits is =
+    let same : i ≡ j = omega (arith, e) in
+    let none : at.1 ≡ at.1 + (words_before ns j - words_before ns i) =
+    omega (arith, ap (words_before ns) same) in
+    subst (λ x. ArePlaced w end ns j first last more x)
+    (ap (with_offset at.0) none ∙ sym is)
+    (subst (λ m. ArePlaced w end ns m first last more at) same h)
+placed_up_to w end ns i j (suc k) first last more at to h e l few fits is =
+    placed_up_to w end ns (i + 1) j k first last more (at.0, at.1 + n) to next (omega (arith, e)) l few
+    (omega (arith, fits, step, up, below)) (is ∙ ap (with_offset at.0) (omega (arith, step, up, below)))
+  where
+    one : i + 1 ≡ suc i
+    one = omega arith
+
+    n : ℕ
+    n = get_or ns i 0
+
+    there : slice_get ns i ≡ Some n
+    there = slice_get-get_or ns i 0 (omega (arith, e, l))
+
+    step : words_before ns (i + 1) ≡ words_before ns i + n
+    step = ap (words_before ns) one ∙ before_more ns i n there
+
+    up : words_before ns (i + 1) ≤ words_before ns j
+    up = before_grows ns (i + 1) j (omega (arith, e))
+
+    below : words_before ns i ≤ words_before ns j
+    below = before_grows ns i j (omega (arith, e))
+
+    placed : at ≡ next_place w at n
+    placed = by_test (nat_le (at.1 + n) w) refl
+      where
+        by_test : (b : Bool) → nat_le (at.1 + n) w ≡ b → at ≡ cond b at (at.0 + 1, 0)
+        by_test true f = refl
+        by_test false f = absurd (omega (arith, fits, step, up, below, leb-false (at.1 + n) w f))
+
+    next : ArePlaced w end ns (i + 1) first last more (at.0, at.1 + n)
+    next = same_run w end ns i n first last more at at
+        (record { first = i; before = words_before ns i; target = at.0; offset = at.1 }) h there placed refl
+        (omega (arith, few, below)) (sym (ap (λ (q : ℕ × ℕ). q.0) h.here))
 
 -- all are placed
 pub all_placed : (w : ℕ) (end : ℕ × ℕ) (ns : List ℕ) (i : ℕ) (first last : Run) (more : List Run) (at : ℕ × ℕ)

@@ -1,9 +1,10 @@
 //! The places of a page's objects, by runs.
 
-ghost use Rattle.std.specs.Prelude.{◌≡◌, ◌+◌, ◌<◌, ◌≤◌, ◌^◌, ◌++◌, ◌∷◌, ℕ, List, [], length, slice_get, IfOk, OnOk, Some};
+ghost use Rattle.std.specs.Prelude.{◌≡◌, ◌+◌, ◌-◌, ◌<◌, ◌≤◌, ◌^◌, ◌++◌, ◌∷◌, ℕ, List, [], length, slice_get, IfOk, OnOk, Some};
 ghost use Rattle.model.specs.declared.limits.TheConstants.{MOST_WORDS};
 ghost use Rattle.model.specs.Plans.{places_from, target_count};
 ghost use Rattle.forward.specs.Runs.{last_with, next_place, runs_with};
+ghost use Rattle.forward.specs.Sizes.{words_before};
 
 use crate::plan::Slot;
 use crate::sizes::Sizes;
@@ -40,6 +41,33 @@ pub(crate) fn next_place(words: u32, end: Slot, size: u32) -> Slot
             offset: 0,
         }
     }
+}
+
+/// Returns where words that begin at a place end.
+#[inline(always)]
+fn behind(place: Slot, words: u32) -> Slot
+    requires { place.1 + words < 2 ^ 32 }
+    ensures { result ≡ (place.0, place.1 + words) }
+{
+    Slot {
+        target: place.target,
+        offset: place.offset + words,
+    }
+}
+
+/// Returns a number up to which the objects from one on fit behind what ends at a place of a target, of `words` words.
+#[inline(always)]
+fn fitting_behind(words: u32, end: Slot, sizes: &Sizes, number: usize) -> usize
+    requires { number ≤ length sizes.now }
+    ensures low { number ≤ result }
+    ensures high { result ≤ length sizes.now }
+    ensures fits { number < result
+        → end.1 + (words_before sizes.now result - words_before sizes.now number) ≤ words }
+{
+    if end.offset > words {
+        return number;
+    }
+    sizes.fitting(number, words - end.offset)
 }
 
 /// The places of a page's objects, in their order. A contract sees the list of them.
@@ -98,20 +126,26 @@ impl Runs {
         let mut last = first;
         let mut more = Vec::new(alloc);
         let mut at = *end;
-        for number in 0..sizes.len() {
-            let size = sizes.size(number);
-            let place = next_place(words, at, size);
-            let run = Run {
-                first: number as u32,
-                before: sizes.before(number),
-                target: place.target as u64,
-                offset: place.offset,
-            };
-            last = add_run(&mut more, last, run)?;
-            at = Slot {
-                target: place.target,
-                offset: place.offset + size,
-            };
+        let count = sizes.len();
+        let mut number = 0;
+        while number < count {
+            let next = fitting_behind(words, at, &sizes, number);
+            if next > number {
+                at = behind(at, sizes.before(next) - sizes.before(number));
+                number = next;
+            } else {
+                let size = sizes.size(number);
+                let place = next_place(words, at, size);
+                let run = Run {
+                    first: number as u32,
+                    before: sizes.before(number),
+                    target: place.target as u64,
+                    offset: place.offset,
+                };
+                last = add_run(&mut more, last, run)?;
+                at = behind(place, size);
+                number += 1;
+            }
         }
         *end = at;
         Ok(Runs { sizes, first, more })

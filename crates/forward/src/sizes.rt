@@ -102,6 +102,32 @@ impl Sizes {
         self.before(number + 1) - self.before(number)
     }
 
+    /// Returns a number up to which the objects from one on have together at most `room` words. No clause says that it
+    /// is the greatest, as it is. It is found by halving.
+    pub(crate) fn fitting(&self, from: usize, room: u32) -> usize
+        requires { from ≤ length self.now }
+        ensures low { from ≤ result }
+        ensures high { result ≤ length self.now }
+        ensures fits { words_before self.now result ≤ words_before self.now from + room }
+    {
+        let count = self.len();
+        let most = u64::from(self.before(from)) + u64::from(room);
+        if u64::from(self.before(count)) <= most {
+            return count;
+        }
+        let mut low = from;
+        let mut high = count;
+        while low + 1 < high {
+            let middle = low + (high - low) / 2;
+            if u64::from(self.before(middle)) <= most {
+                low = middle;
+            } else {
+                high = middle;
+            }
+        }
+        low
+    }
+
     /// Returns how many words the objects before each one have.
     pub(crate) fn into_sums(self) -> Vec<u32, Global>
         ensures { result.items ≡ sums_of 0 self }
