@@ -37,6 +37,9 @@ pub trait Marked: Mutating + Stepping {
 
     /// Ends the mark.
     fn end(&mut self) -> Result<(), Refusal>;
+
+    /// Returns the heap, to be read.
+    fn look(&self) -> &Heap;
 }
 
 impl Marked for Heap {
@@ -65,6 +68,10 @@ impl Marked for Heap {
     fn end(&mut self) -> Result<(), Refusal> {
         self.step(Actor::Worker(0), &Step::EndMark)?;
         Ok(())
+    }
+
+    fn look(&self) -> &Heap {
+        self
     }
 }
 

@@ -15,12 +15,8 @@ fn all() -> u64 {
 /// Both heaps have the same words, marks and grey objects.
 fn are_same(rt: &impl Abort, one: &Heap, other: &Heap) {
     for page in 1..=one.memory().page_count() {
-        same_at(
-            rt,
-            page,
-            one.memory().words(page),
-            other.memory().words(page),
-        );
+        let words = (one.memory().words(page), other.memory().words(page));
+        same_at(rt, page, words.0, words.1);
     }
     same(rt, one.mark().count(), other.mark().count());
     same(rt, one.todo().is_empty(), other.todo().is_empty());
@@ -29,8 +25,8 @@ fn are_same(rt: &impl Abort, one: &Heap, other: &Heap) {
 /// A heap is marked by one thread, and another on several.
 fn marks<R: Abort + Threads + Sync>(
     rt: &R,
-    mut one: Heap,
-    mut other: Heap,
+    mut one: impl Marked + Drop,
+    mut other: impl Marked + Drop,
     threads: u32,
 ) -> Result<(), Fail> {
     fill(&mut one)?;
@@ -39,10 +35,10 @@ fn marks<R: Abort + Threads + Sync>(
     other.begin()?;
     same(rt, one.drained(u64::MAX), all());
     same(rt, other.waved(rt, u64::MAX, threads), all());
-    are_same(rt, &one, &other);
+    are_same(rt, one.look(), other.look());
     one.end()?;
     other.end()?;
-    same(rt, other.live().count(), all());
+    same(rt, other.look().live().count(), all());
     Ok(())
 }
 
@@ -61,7 +57,7 @@ fn a_wave_of_one_part(rt: HostRuntime) -> Result<(), Fail> {
 }
 
 /// A drain that is bounded stops after so many objects, and goes on later.
-fn stops<R: Abort + Threads + Sync>(rt: &R, mut heap: Heap) -> Result<(), Fail> {
+fn stops<R: Abort + Threads + Sync>(rt: &R, mut heap: impl Marked + Drop) -> Result<(), Fail> {
     fill(&mut heap)?;
     heap.begin()?;
     same(rt, heap.waved(rt, 5000, 3), 5000);
