@@ -4,7 +4,6 @@
 use anyhow::Result;
 use pauseless::{Config, Holding, Layout, Layouts, ManagedHeap, Policy, Refusal};
 use std::alloc::Global;
-use std::thread::Threads;
 
 /// The one thread of each heap.
 pub const ME: u32 = 0;
@@ -40,8 +39,8 @@ pub trait Marked: Holding {
     /// Does a mark, from its start to its end. Returns how many objects are live.
     fn mark_once(&mut self) -> Result<u64, Refusal>;
 
-    /// Does a mark that scans on a number of threads. Returns how many objects are live.
-    fn mark_by_threads<R: Threads + Sync>(&mut self, rt: &R, threads: u32) -> Result<u64, Refusal>;
+    /// Returns the heap.
+    fn managed(&mut self) -> &mut ManagedHeap;
 
     /// Does a complete collection. Returns how many objects are live.
     fn collect_once(&mut self, alloc: Global) -> Result<u64, Refusal>;
@@ -52,8 +51,8 @@ impl Marked for ManagedHeap {
         self.mark(0)
     }
 
-    fn mark_by_threads<R: Threads + Sync>(&mut self, rt: &R, threads: u32) -> Result<u64, Refusal> {
-        self.mark_by(rt, 0, threads)
+    fn managed(&mut self) -> &mut ManagedHeap {
+        self
     }
 
     fn collect_once(&mut self, alloc: Global) -> Result<u64, Refusal> {

@@ -4,7 +4,7 @@ use crate::asking::{Marked, new_heap, settle};
 use crate::{lists, meshes};
 use anyhow::Result;
 use bench_support::{Lap, Laps, since};
-use pauseless::{Holding, Refusal};
+use pauseless::{Holding, ManagedHeap, Refusal};
 use std::alloc::Global;
 use std::thread::Threads;
 use std::time::{Clock, Instant};
@@ -105,6 +105,15 @@ pub fn lose(alloc: Global, words: u32, count: u32) -> Result<u64> {
     lost(alloc, new_heap(alloc, words)?, count)
 }
 
+/// Does a mark that scans on a number of threads. Returns how many objects are live.
+fn mark_by<R: Threads + Sync>(
+    rt: &R,
+    heap: &mut ManagedHeap,
+    threads: u32,
+) -> Result<u64, Refusal> {
+    heap.mark_by(rt, 0, threads)
+}
+
 /// Marks a heap `times` times on threads, and adds the time of each mark. Returns how many objects are live.
 fn timed<R: Clock + Threads + Sync>(
     rt: &R,
@@ -116,7 +125,7 @@ fn timed<R: Clock + Threads + Sync>(
     let mut live = 0;
     for _ in 0..task.times {
         let start = Instant::now(rt)?;
-        live = heap.mark_by_threads(rt, threads)?;
+        live = mark_by(rt, heap.managed(), threads)?;
         laps.add("mark", since(rt, start)?)?;
     }
     Ok(live)

@@ -32,14 +32,14 @@ pub trait Marked: Mutating + Stepping {
     /// Drains by one thread, if the worker is ready. Returns how many objects were scanned.
     fn drained(&mut self, most: u64) -> u64;
 
-    /// The same on a number of threads.
-    fn waved<R: Threads + Sync>(&mut self, rt: &R, most: u64, threads: u32) -> u64;
-
     /// Ends the mark.
     fn end(&mut self) -> Result<(), Refusal>;
 
     /// Returns the heap, to be read.
     fn look(&self) -> &Heap;
+
+    /// Returns the heap.
+    fn heap_mut(&mut self) -> &mut Heap;
 }
 
 impl Marked for Heap {
@@ -57,14 +57,6 @@ impl Marked for Heap {
         }
     }
 
-    fn waved<R: Threads + Sync>(&mut self, rt: &R, most: u64, threads: u32) -> u64 {
-        if is_ready(self, 0) {
-            drain_by(rt, self, 0, most, threads)
-        } else {
-            0
-        }
-    }
-
     fn end(&mut self) -> Result<(), Refusal> {
         self.step(Actor::Worker(0), &Step::EndMark)?;
         Ok(())
@@ -72,6 +64,19 @@ impl Marked for Heap {
 
     fn look(&self) -> &Heap {
         self
+    }
+
+    fn heap_mut(&mut self) -> &mut Heap {
+        self
+    }
+}
+
+/// Drains on a number of threads, if the worker is ready. Returns how many objects were scanned.
+pub fn waved<R: Threads + Sync>(rt: &R, heap: &mut Heap, most: u64, threads: u32) -> u64 {
+    if is_ready(heap, 0) {
+        drain_by(rt, heap, 0, most, threads)
+    } else {
+        0
     }
 }
 

@@ -1,8 +1,8 @@
 //! Marks of the same heap by one thread and on several.
 
 use crate::same::{same, same_at};
-use crate::tables::{Marked, PLACES, TABLES, config, fill};
-use heap::Heap;
+use crate::tables::{Marked, PLACES, TABLES, config, fill, waved};
+use heap::{Heap, Rows};
 use std::process::Abort;
 use std::test::Fail;
 use std::thread::Threads;
@@ -12,13 +12,24 @@ fn all() -> u64 {
     1 + u64::from(TABLES) + u64::from(TABLES) * u64::from(PLACES)
 }
 
+/// Returns how many bits are set in all bitmaps.
+fn set_in(rows: &Rows) -> u64 {
+    let mut count = 0u64;
+    for index in 0..rows.len() {
+        if let Some(row) = rows.get(index) {
+            count = count.wrapping_add(row.count() as u64);
+        }
+    }
+    count
+}
+
 /// Both heaps have the same words, marks and grey objects.
 fn are_same(rt: &impl Abort, one: &Heap, other: &Heap) {
     for page in 1..=one.memory().page_count() {
         let words = (one.memory().words(page), other.memory().words(page));
         same_at(rt, page, words.0, words.1);
     }
-    same(rt, one.mark().count(), other.mark().count());
+    same(rt, set_in(one.mark()), set_in(other.mark()));
     same(rt, one.todo().is_empty(), other.todo().is_empty());
 }
 
@@ -34,11 +45,11 @@ fn marks<R: Abort + Threads + Sync>(
     one.begin()?;
     other.begin()?;
     same(rt, one.drained(u64::MAX), all());
-    same(rt, other.waved(rt, u64::MAX, threads), all());
+    same(rt, waved(rt, other.heap_mut(), u64::MAX, threads), all());
     are_same(rt, one.look(), other.look());
     one.end()?;
     other.end()?;
-    same(rt, other.look().live().count(), all());
+    same(rt, set_in(other.look().live()), all());
     Ok(())
 }
 
@@ -60,9 +71,13 @@ fn a_wave_of_one_part(rt: HostRuntime) -> Result<(), Fail> {
 fn stops<R: Abort + Threads + Sync>(rt: &R, mut heap: impl Marked + Drop) -> Result<(), Fail> {
     fill(&mut heap)?;
     heap.begin()?;
-    same(rt, heap.waved(rt, 5000, 3), 5000);
-    same(rt, heap.waved(rt, u64::MAX, 3), all() - 5000);
-    same(rt, heap.waved(rt, u64::MAX, 3), 0);
+    same(rt, waved(rt, heap.heap_mut(), 5000, 3), 5000);
+    same(
+        rt,
+        waved(rt, heap.heap_mut(), u64::MAX, 3),
+        all().saturating_sub(5000),
+    );
+    same(rt, waved(rt, heap.heap_mut(), u64::MAX, 3), 0);
     Ok(())
 }
 
