@@ -106,9 +106,9 @@ pub(crate) fn add_run(runs: &mut Vec<Run>, last: Run, run: Run) -> Result<Run, A
 }
 
 impl Runs {
-    /// Plans places for a page's objects, in targets of `words` words, behind what ends at `end`, next fit: each directly
-    /// after the previous one, or at the head of the next target if it doesn't fit. Then `end` is where they end. Fails
-    /// only if out of memory.
+    /// Plans places for a page's objects, in targets of `words` words, behind what ends at `end`, next fit: each
+    /// directly after the previous one, or at the head of the next target if it doesn't fit. Then `end` is where they
+    /// end. Fails only if out of memory.
     pub fn new(alloc: Global, words: u32, end: &mut Slot, sizes: Sizes) -> Result<Runs, AllocError>
         requires few { end.old.0 < 2 ^ 62 }
         ensures many { IfOk result (λ r. length r ≡ length sizes) }
