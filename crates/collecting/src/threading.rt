@@ -47,6 +47,7 @@ fn run_cycle_by<R: Threads + Sync>(
     }
 }
 
+/// Does what is left of an emptying, and then a cycle whose mark scans on a number of threads.
 fn collect_whole_by<R: Threads + Sync>(
     rt: &R,
     heap: &mut ManagedHeap,
@@ -63,7 +64,8 @@ fn collect_whole_by<R: Threads + Sync>(
     }
 }
 
-/// Does a complete collection as `Holding::collect` does, whose mark scans on a number of threads.
+/// Does a complete collection as `Holding::collect` does, with the same `percent`, result and errors. Its mark may scan
+/// on `threads` threads; with 0, or while few objects are grey, this thread scans alone.
 pub fn collect_by<R: Threads + Sync>(
     rt: &R,
     heap: &mut ManagedHeap,

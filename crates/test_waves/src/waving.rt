@@ -67,7 +67,7 @@ fn a_wave_of_one_part(rt: HostRuntime) -> Result<(), Fail> {
     marks(&rt, one, other, 1)
 }
 
-/// A drain that is bounded stops after so many objects, and goes on later.
+/// A drain that is bounded stops after a number of objects, and goes on later.
 fn stops<R: Abort + Threads + Sync>(rt: &R, mut heap: impl Marked + Drop) -> Result<(), Fail> {
     fill(&mut heap)?;
     heap.begin()?;

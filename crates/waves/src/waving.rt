@@ -85,7 +85,7 @@ fn wave<R: Threads + Sync>(
     count
 }
 
-/// Does a wave on a number of threads, if so many objects are grey that it is worth it, and returns how many it
+/// Does a wave on a number of threads, if enough objects are grey for it to be worth it, and returns how many it
 /// scanned.
 fn try_wave<R: Threads + Sync>(rt: &R, heap: &mut Heap, worker: u32, most: u64, threads: u32) -> u64
     requires { IsReady heap.old worker }
