@@ -7,4 +7,5 @@ pub mod Planning
 pub mod Sizes
 pub mod Runs
 pub mod Bases
+pub mod Objects
 pub mod Drafts

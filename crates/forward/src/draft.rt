@@ -1,11 +1,14 @@
 //! Forwarding tables whose targets aren't open yet.
 
-ghost use Rattle.std.specs.Prelude.{◌≡◌, ◌<◌, ◌≤◌, [], length, count_by, IfOk};
+ghost use Rattle.std.specs.Prelude.{◌≡◌, ◌+◌, ◌<◌, ◌≤◌, ◌^◌, ◌++◌, ℕ, List, [], length, count_by, IfOk};
 ghost use Rattle.model.specs.declared.limits.TheConstants.{MOST_PAGES, MOST_WORDS};
 ghost use Rattle.model.specs.Owning.{Each};
+ghost use Rattle.model.specs.Plans.{places_from, target_count};
 ghost use Rattle.forward.specs.Drafts.{settled};
 
+use crate::objects::LiveObjects;
 use crate::places::Places;
+use crate::plan::Slot;
 use crate::runs::Runs;
 use crate::side::Side;
 use markbits::{RankedRow, Row};
@@ -44,16 +47,30 @@ impl Draft {
         }
     }
 
-    /// Returns the draft of a page with this live bitmap, of at most as many bits as the largest page has words, and a
-    /// place for each object. Fails only if out of memory.
-    pub fn new(alloc: Global, live: Row, places: Runs) -> Result<Draft, AllocError>
-        requires short { length live ≤ MOST_WORDS }
-        requires many { length places ≡ count_by (λ b. b) live }
-        ensures { IfOk result (λ d. d ≡ record { live = live; places = places }) }
+    /// Plans places for a page's objects, in targets of `words` words, after what ends at `end`, next fit: each
+    /// directly after the previous one, or at the head of the next target if it doesn't fit. Then `end` is where they
+    /// end. It takes memory only for the second and further targets. Fails only if out of memory.
+    pub fn new(
+        alloc: Global,
+        words: u32,
+        end: &mut Slot,
+        objects: LiveObjects,
+    ) -> Result<Draft, AllocError>
+        requires few { end.old.0 < 2 ^ 62 }
+        ensures live { IfOk result (λ d. d.live ≡ objects.live) }
+        ensures many { IfOk result (λ d. length d.places ≡ count_by (λ b. b) d.live) }
+        ensures places { IfOk result (λ d. (ns : List ℕ)
+            → places_from words end.old.0 end.old.1 (objects.sizes ++ ns)
+            ≡ d.places ++ places_from words end.new.0 end.new.1 ns) }
+        ensures counted { IfOk result (λ d. 0 < length d.places → target_count d.places ≡ end.new.0 + 1) }
+        ensures near { end.new.0 ≤ end.old.0 + MOST_WORDS }
     {
-        let _ = live.len();
-        let copied = Row::new(alloc, live.count() as u32)?;
-        let live = RankedRow::new(alloc, live)?;
+        let LiveObjects {
+            live,
+            copied,
+            sizes,
+        } = objects;
+        let places = Runs::new(alloc, words, end, sizes)?;
         Ok(Draft {
             live,
             copied,

@@ -2,6 +2,7 @@
 #![tactic(auto)]
 
 mod draft;
+mod objects;
 mod places;
 mod plan;
 mod planning;
@@ -11,6 +12,7 @@ mod sides;
 mod sizes;
 
 pub use draft::Draft;
+pub use objects::LiveObjects;
 pub use plan::{Plan, Slot};
 pub use runs::Runs;
 pub use side::Side;

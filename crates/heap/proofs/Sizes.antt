@@ -5,6 +5,7 @@ use Rattle.std.specs.Prelude.{IfSome}
 use Rattle.std.specs.List.{slice_get}
 use Rattle.std.specs.Option.{option_and_then}
 use Rattle.std.proofs.lemmas.Nat.{div-mul-add, mod-mul-add}
+use Rattle.forward.specs.Objects.{ObjectsState}
 use Rattle.model.specs.Data.{layout_at, layout_in, header_layout}
 use Rattle.model.specs.Bits.{of_page}
 use Rattle.model.specs.Plans.{live_offsets, object_words, offsets_from, words_of}
@@ -12,7 +13,7 @@ use Rattle.model.specs.States.{HeapState}
 use Rattle.model.specs.Stores.{words_at}
 use Rattle.model.proofs.Memory.{word_on_page}
 use Rattle.page.specs.Kept as kept_specs
-use Rattle.page.specs.Kept.{sizes_in}
+use Rattle.page.specs.Kept.{objects_in, sizes_in}
 
 -- it is that of the header at the object's offset
 pub size_in : (h : HeapState) (n o : ℕ) (ws : List ℕ) → o < h.store.words → words_at h.store n ≡ Some ws
@@ -53,3 +54,15 @@ pub if_kept : {X : Type 0} (h : HeapState) (n : ℕ) (row : List Bool) (o : Opti
     → IfSome o (λ x. sizes x ≡ map (λ o. object_words h (n * h.store.words + o)) (live_offsets h n))
 if_kept h n row None sizes is short kept = tt
 if_kept h n row (Some x) sizes is short (ws, there, same) = kept_sized h n row ws (sizes x) there is short same
+
+-- objects that were kept are the page's live ones
+module _ (h : HeapState) (n : ℕ) (row : List Bool) (is : row ≡ of_page h.live n) where
+  -- they are those in the page's words
+  abbrev pub WereKept : ObjectsState → Type 0
+  WereKept o = (ws : List ℕ) × (words_at h.store n ≡ Some ws) × (o ≡ objects_in h.config.layouts ws row)
+
+  pub sizes_taken : (taken : Option ObjectsState) → length row ≤ h.store.words → IfSome taken WereKept
+      → IfSome taken (λ o. o.sizes ≡ map (λ o. object_words h (n * h.store.words + o)) (live_offsets h n))
+  sizes_taken None short were = tt
+  sizes_taken (Some o) short (ws, there, same) =
+      kept_sized h n row ws o.sizes there is short (ap (λ (x : ObjectsState). x.sizes) same)

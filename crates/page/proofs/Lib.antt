@@ -3,6 +3,7 @@ pub mod Indexes
 pub mod Retiring
 pub mod Ended
 pub mod Keeping
+pub mod Retained
 pub mod Lying
 pub mod Behind
 pub mod Trees

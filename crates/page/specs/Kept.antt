@@ -1,5 +1,6 @@
--- Sizes of a page's objects that are kept with its frame.
+-- Live objects of a page that are kept with its frame.
 use Rattle.std.specs.Prelude.{◌≡◌, ℕ, Bool, List, [], ◌∷◌, map, slice_get}
+use Rattle.forward.specs.Objects.{ObjectsState}
 use Rattle.layout.specs.declared.shape.Layout.{Layout}
 use Rattle.model.specs.Data.{header_layout, layout_in}
 use Rattle.model.specs.Plans.{offsets_from, words_of}
@@ -12,15 +13,18 @@ size_in layouts words o = words_of (layout_in layouts (header_layout (slice_get 
 abbrev pub sizes_in : List Layout → List ℕ → List Bool → List ℕ
 sizes_in layouts words live = map (size_in layouts words) (offsets_from 0 live)
 
--- sizes, with the bitmap of the objects and the layouts by which they were found
-pub record KeptState : Type 0 where
-  pub live : List Bool
-  pub layouts : List Layout
-  pub sizes : List ℕ
+-- the objects at the set bits of a bitmap
+abbrev pub objects_in : List Layout → List ℕ → List Bool → ObjectsState
+objects_in layouts words live = record { live = live; sizes = sizes_in layouts words live }
 
--- they are those of objects in these words
+-- objects, with the layouts by which their sizes were found
+pub record KeptState : Type 0 where
+  pub objects : ObjectsState
+  pub layouts : List Layout
+
+-- they are objects in these words
 abbrev pub IsKept : List ℕ → KeptState → Type 0
-IsKept words k = k.sizes ≡ sizes_in k.layouts words k.live
+IsKept words k = k.objects ≡ objects_in k.layouts words k.objects.live
 
 -- all of them are
 abbrev pub AreKept : List ℕ → List KeptState → Type 0

@@ -3,12 +3,12 @@
 ghost use Rattle.std.specs.Prelude.{◌≡◌, ◌+◌, ◌≤◌, ◌<◌, ◌^◌, length, slice_get, slice_set, slice_range, replicate};
 ghost use Rattle.std.specs.Prelude.{take, drop, [], IfOk, IfSome, nat_lt};
 ghost use Rattle.model.specs.declared.limits.TheConstants.{MOST_WORDS};
-ghost use Rattle.page.specs.Kept.{sizes_in};
+ghost use Rattle.page.specs.Kept.{objects_in, sizes_in};
 ghost use Rattle.std.specs.Borrow.{sem};
 ghost use Rattle.page.specs.Lending.{LendsRun};
 
-use crate::kept::KeptSizes;
-use forward::Sizes;
+use crate::kept::KeptObjects;
+use forward::{LiveObjects, Sizes};
 use layout::Layouts;
 use markbits::Row;
 use std::alloc::{AllocError, Global};
@@ -21,10 +21,10 @@ pub struct Frame {
     words: Vec<u64, Global>,
     /// Whether a word may have been written since all were 0.
     written: bool,
-    /// Whether no word was written since sizes of objects were kept.
+    /// Whether no word was written since objects were kept.
     fresh: bool,
-    /// The sizes that were kept last, if any.
-    kept: Vec<KeptSizes, Global>,
+    /// The objects that were kept last, if any.
+    kept: Vec<KeptObjects, Global>,
 }
 
 impl Model for Frame {
@@ -104,10 +104,10 @@ impl Frame {
         ensures { self.new ≡ self.old }
     {
         let alloc = *self.words.allocator();
-        let sizes = KeptSizes::new(alloc, layouts, &self.words, live)?;
+        let objects = KeptObjects::new(alloc, layouts, &self.words, live)?;
         self.fresh = false;
         self.kept.clear();
-        self.kept.push(sizes)?;
+        self.kept.push(objects)?;
         self.fresh = true;
         Ok(())
     }
@@ -124,7 +124,22 @@ impl Frame {
         kept.sizes_for(layouts, live)
     }
 
-    /// Sets all words to 0, and frees sizes that were kept. It costs nothing if no word was written since they were.
+    /// Takes the objects at the set bits of a bitmap, by these layouts, if their sizes were kept and no word was written
+    /// since. They are no longer kept then. The words stay.
+    pub fn take_objects(&mut self, layouts: &Layouts, live: &Row) -> Option<LiveObjects>
+        ensures objects { IfSome result (λ o. o ≡ objects_in layouts.now self.old live.now) }
+        ensures words { self.new ≡ self.old }
+    {
+        let were_fresh = self.fresh;
+        self.fresh = false;
+        if !were_fresh {
+            return None;
+        }
+        let kept = self.kept.pop()?;
+        kept.objects_for(layouts, live)
+    }
+
+    /// Sets all words to 0, and frees objects that were kept. It costs nothing if no word was written since they were.
     pub fn clear(&mut self)
         ensures { self.new ≡ replicate (length self.old) 0 }
     {

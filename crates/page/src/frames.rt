@@ -7,9 +7,11 @@ ghost use Rattle.std.specs.Borrow.{sem};
 ghost use Rattle.model.specs.Stores.{changed_in, word_in};
 ghost use Rattle.model.specs.declared.limits.TheConstants.{MOST_WORDS};
 ghost use Rattle.page.specs.Aside.{left_in};
+ghost use Rattle.page.specs.Kept.{objects_in};
 ghost use Rattle.page.specs.Lending.{LendsFrame, LendsWords};
 
 use crate::frame::Frame;
+use forward::LiveObjects;
 use layout::Layouts;
 use markbits::Row;
 use std::alloc::{AllocError, Global};
@@ -204,6 +206,24 @@ impl Frames {
         put_back(&mut self.held, &mut self.frames, at);
         self.held_at = self.frames.len();
         self.frames[number].keep_sizes(layouts, live)
+    }
+
+    /// Takes the objects that are kept with a frame, as `Frame::take_objects`.
+    pub(crate) fn take_objects(
+        &mut self,
+        number: usize,
+        layouts: &Layouts,
+        live: &Row,
+    ) -> Option<LiveObjects>
+        requires { number < length self.old }
+        ensures objects { IfSome (slice_get self.old number)
+            (λ ws. IfSome result (λ o. o ≡ objects_in layouts.now ws live.now)) }
+        ensures stays { self.new ≡ self.old }
+    {
+        let at = self.held_at;
+        put_back(&mut self.held, &mut self.frames, at);
+        self.held_at = self.frames.len();
+        self.frames[number].take_objects(layouts, live)
     }
 
     /// Returns how many frames' memory is kept.

@@ -1,10 +1,10 @@
-//! Sizes of a page's objects that are kept with its frame, until a word of it is written.
+//! Live objects of a page that are kept with its frame, until a word of it is written.
 
 ghost use Rattle.std.specs.Prelude.{◌≡◌, ◌<◌, ◌≤◌, ◌^◌, true, length, IfOk, IfSome};
 ghost use Rattle.model.specs.declared.limits.TheConstants.{MOST_WORDS};
 ghost use Rattle.page.specs.Kept.{IsKept, size_in, sizes_in};
 
-use forward::Sizes;
+use forward::{LiveObjects, Sizes};
 use layout::{Layout, Layouts, layout_of};
 use markbits::Row;
 use std::alloc::{AllocError, Global};
@@ -62,56 +62,73 @@ fn are_same(one: &[Layout], other: &[Layout]) -> bool
     true
 }
 
-/// The sizes of objects of a page, with the bitmap of the objects and the layouts by which they were found.
+/// The live objects of a page, with the layouts by which their sizes were found.
 #[derive(Drop)]
-pub(crate) struct KeptSizes {
-    live: Row,
+pub(crate) struct KeptObjects {
+    objects: LiveObjects,
     layouts: Vec<Layout, Global>,
-    sizes: Sizes,
 }
 
-impl Model for KeptSizes {
+impl Model for KeptObjects {
     ghost use Rattle.page.specs.Kept.{KeptState};
 
     ghost Value = { KeptState };
 
-    ghost view = { λ k. record { live = k.live; layouts = k.layouts.items; sizes = k.sizes } };
+    ghost view = { λ k. record { objects = k.objects; layouts = k.layouts.items } };
 }
 
-impl KeptSizes {
-    /// Returns the sizes of the objects at the set bits of a bitmap, which has at most as many bits as the largest page
-    /// has words. Fails only if out of memory.
+impl KeptObjects {
+    /// Returns the objects at the set bits of a bitmap, which has at most as many bits as the largest page has words.
+    /// Fails only if out of memory.
     pub fn new(
         alloc: Global,
         layouts: &Layouts,
         words: &[u64],
         live: &Row,
-    ) -> Result<KeptSizes, AllocError>
+    ) -> Result<KeptObjects, AllocError>
         requires { length live.now ≤ MOST_WORDS }
         ensures { IfOk result (IsKept words.now) }
     {
         let sizes = sizes_in(alloc, layouts, words, live)?;
         let live = live.copy(alloc)?;
+        let objects = LiveObjects::new(alloc, live, sizes)?;
         let layouts = Vec::from_slice(alloc, layouts.as_slice())?;
-        Ok(KeptSizes {
-            live,
-            layouts,
-            sizes,
-        })
+        Ok(KeptObjects { objects, layouts })
+    }
+
+    /// Returns whether they are this bitmap's objects, by these layouts. Bitmaps that were cleared in different ways may
+    /// count as different.
+    fn are_of(&self, layouts: &Layouts, live: &Row) -> bool
+        ensures live { result ≡ true → self.now.objects.live ≡ live.now }
+        ensures layouts { result ≡ true → self.now.layouts ≡ layouts.now }
+    {
+        if !self.objects.live().is_same(live) {
+            return false;
+        }
+        are_same(&self.layouts, layouts.as_slice())
     }
 
     /// Returns the sizes, if they are those of this bitmap's objects, by these layouts.
     pub fn sizes_for(&self, layouts: &Layouts, live: &Row) -> Option<&Sizes>
-        ensures sizes { IfSome result (λ s. s.now ≡ self.now.sizes) }
-        ensures live { IfSome result (λ s. self.now.live ≡ live.now) }
+        ensures sizes { IfSome result (λ s. s.now ≡ self.now.objects.sizes) }
+        ensures live { IfSome result (λ s. self.now.objects.live ≡ live.now) }
         ensures layouts { IfSome result (λ s. self.now.layouts ≡ layouts.now) }
     {
-        if !self.live.is_same(live) {
+        if !self.are_of(layouts, live) {
             return None;
         }
-        if !are_same(&self.layouts, layouts.as_slice()) {
+        Some(self.objects.sizes())
+    }
+
+    /// Returns the objects, if they are those of this bitmap, by these layouts.
+    pub fn objects_for(self, layouts: &Layouts, live: &Row) -> Option<LiveObjects>
+        ensures objects { IfSome result (λ o. o ≡ self.objects) }
+        ensures live { IfSome result (λ o. self.objects.live ≡ live.now) }
+        ensures layouts { IfSome result (λ o. self.layouts ≡ layouts.now) }
+    {
+        if !self.are_of(layouts, live) {
             return None;
         }
-        Some(&self.sizes)
+        Some(self.objects)
     }
 }

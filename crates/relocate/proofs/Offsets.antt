@@ -3,6 +3,7 @@ use Rattle.std.proofs.Common.{◌≡◌, ℕ, ◌-◌, ◌<◌, ◌≤◌, Bool,
 use Rattle.std.specs.List.{slice_get}
 use Rattle.std.specs.Prelude.{count_by}
 use Rattle.std.proofs.lemmas.List.{length-map}
+use Rattle.forward.specs.Objects.{ObjectsState}
 use Rattle.forward.proofs.Ranked.{offsets_many}
 use Rattle.model.specs.Bits.{of_page}
 use Rattle.model.specs.Holding.{IsHeap}
@@ -10,7 +11,7 @@ use Rattle.model.specs.Plans.{live_offsets, offsets_from}
 use Rattle.model.specs.States.{HeapState}
 use Rattle.model.proofs.OfPages.{of_page_none, of_page_some}
 use Rattle.model.proofs.Tables.{row_short}
-use Rattle.relocate.specs.Drafts.{draft_size, draft_sizes}
+use Rattle.relocate.specs.Drafts.{AreLiveOn, draft_size, draft_sizes}
 
 module _ (h : HeapState) (n : ℕ) (low : 0 < n) where
   -- a page without a record has no live objects
@@ -40,3 +41,11 @@ pub sizes_live : (h : HeapState) (n : ℕ) (row : List Bool) → row ≡ of_page
     → map (draft_size h n) (offsets_from 0 row) ≡ draft_sizes h n
 unfolding live_offsets
 sizes_live h n row e = ap (λ r. map (draft_size h n) (offsets_from 0 r)) e
+
+-- objects with a page's live bitmap and sizes are the page's live ones
+pub live_on : (h : HeapState) (n : ℕ) (o : ObjectsState) (live : List Bool) (sizes : List ℕ)
+    → o ≡ record { live = live; sizes = sizes } → live ≡ of_page h.live n → sizes ≡ draft_sizes h n → AreLiveOn h n o
+live_on h n o live sizes e is sized = record {
+  live = ap (λ (x : ObjectsState). x.live) e ∙ is;
+  sizes = ap (λ (x : ObjectsState). x.sizes) e ∙ sized;
+}

@@ -6,6 +6,7 @@ use Rattle.model.specs.Owning.{Each}
 use Rattle.model.specs.Plans.{live_offsets, object_words}
 use Rattle.model.specs.States.{HeapState}
 use Rattle.forward.specs.Drafts.{DraftState, settled}
+use Rattle.forward.specs.Objects.{ObjectsState}
 
 -- the address of an offset of page n
 abbrev pub address_of : HeapState → ℕ → ℕ → ℕ
@@ -18,6 +19,11 @@ draft_size h n o = object_words h (address_of h n o)
 -- the words of each live object of page n
 abbrev pub draft_sizes : HeapState → ℕ → List ℕ
 draft_sizes h n = map (draft_size h n) (live_offsets h n)
+
+-- the live objects of page n: its live bitmap, and a size for each
+pub record AreLiveOn (h : HeapState) (n : ℕ) (o : ObjectsState) : Type 0 where
+  pub live : o.live ≡ of_page h.live n
+  pub sizes : o.sizes ≡ draft_sizes h n
 
 -- the places of a draft
 abbrev pub places_of : DraftState → List (ℕ × ℕ)

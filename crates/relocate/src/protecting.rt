@@ -36,18 +36,19 @@ struct Preparation {
     targets: Vec<u32>,
 }
 
-/// Returns the drafts of pages, and a list with space for the targets. It doesn't change the heap. Fails only if out of
-/// memory.
-fn prepare(alloc: Global, heap: &Heap, pages: &[u32]) -> Result<Preparation, AllocError>
+/// Returns the drafts of pages, and a list with space for the targets. Sizes that were kept with the pages are
+/// no longer kept; nothing else of the heap changes. Fails only if out of memory.
+fn prepare(alloc: Global, heap: &mut Heap, pages: &[u32]) -> Result<Preparation, AllocError>
     requires low { Each pages.now (λ n. 0 < n) }
-    requires high { Each pages.now (λ n. n ≤ heap.now.store.count) }
+    requires high { Each pages.now (λ n. n ≤ heap.old.store.count) }
     requires few { length pages.now ≤ 2 ^ 20 }
-    ensures drafts { IfOk result (λ p. AreDraftsOf heap.now pages.now p.drafts.items) }
-    ensures plan { IfOk result (λ p. flat_map places_of p.drafts.items ≡ plan_of heap.now pages.now) }
-    ensures objects { IfOk result (λ p. p.objects ≡ length (plan_of heap.now pages.now)) }
-    ensures count { IfOk result (λ p. p.count ≡ target_count (plan_of heap.now pages.now)) }
+    ensures drafts { IfOk result (λ p. AreDraftsOf heap.old pages.now p.drafts.items) }
+    ensures plan { IfOk result (λ p. flat_map places_of p.drafts.items ≡ plan_of heap.old pages.now) }
+    ensures objects { IfOk result (λ p. p.objects ≡ length (plan_of heap.old pages.now)) }
+    ensures count { IfOk result (λ p. p.count ≡ target_count (plan_of heap.old pages.now)) }
     ensures empty { IfOk result (λ p. p.targets.items ≡ []) }
     ensures room { IfOk result (λ p. p.count ≤ vec_capacity p.targets) }
+    ensures stays { heap.new ≡ heap.old }
 {
     let planned = draft_pages(alloc, heap, pages)?;
     let targets = Vec::with_capacity(alloc, planned.targets)?;

@@ -1,10 +1,11 @@
-//! Sizes of live objects that are kept with their page.
+//! Live objects that are kept with their page.
 
 ghost use Rattle.std.specs.Prelude.{◌≡◌, ◌+◌, ◌*◌, ◌<◌, ◌≤◌, map, IfSome};
+ghost use Rattle.model.specs.Bits.{of_page};
 ghost use Rattle.model.specs.Plans.{live_offsets, object_words};
 
 use crate::heap::Heap;
-use forward::Sizes;
+use forward::{LiveObjects, Sizes};
 use std::alloc::AllocError;
 
 impl Heap {
@@ -31,5 +32,20 @@ impl Heap {
         self.law();
         let row = self.live.get((page - 1) as usize)?;
         self.store.sizes(page, &self.config.layouts, row)
+    }
+
+    /// Takes the live objects of a page, by its number from 1, if their sizes were kept and no word of the page was
+    /// written since. They are no longer kept then. Nothing else changes.
+    pub fn raw_take_objects(&mut self, page: u32) -> Option<LiveObjects>
+        requires low { 0 < page }
+        requires high { page ≤ self.old.store.count }
+        ensures live { IfSome result (λ o. o.live ≡ of_page self.old.live page) }
+        ensures sizes { IfSome result (λ o. o.sizes
+            ≡ map (λ o. object_words self.old (page * self.old.store.words + o)) (live_offsets self.old page)) }
+        ensures stays { self.new ≡ self.old }
+    {
+        self.law();
+        let row = self.live.get((page - 1) as usize)?;
+        self.store.take_objects(page, &self.config.layouts, row)
     }
 }

@@ -1,12 +1,12 @@
-//! Sizes of a page's objects that are kept with its frame.
+//! Live objects of a page that are kept with its frame.
 
 ghost use Rattle.std.specs.Prelude.{◌≡◌, ◌≤◌, ℕ, List, length, IfSome, Some};
 ghost use Rattle.model.specs.Stores.{words_at};
 ghost use Rattle.model.specs.declared.limits.TheConstants.{MOST_WORDS};
-ghost use Rattle.page.specs.Kept.{sizes_in};
+ghost use Rattle.page.specs.Kept.{objects_in, sizes_in};
 
 use crate::store::Store;
-use forward::Sizes;
+use forward::{LiveObjects, Sizes};
 use layout::Layouts;
 use markbits::Row;
 use std::alloc::AllocError;
@@ -38,5 +38,20 @@ impl Store {
         let frame = self.frame(page)?;
         let frame = self.frames.get(frame as usize)?;
         frame.sizes(layouts, live)
+    }
+
+    /// Takes the objects of a page at the set bits of a bitmap, by these layouts, if their sizes were kept and no word
+    /// of the page was written since. They are no longer kept then. Nothing else changes.
+    #[tactic(auto, unfolding(model::specs::Stores::words_at))]
+    pub fn take_objects(&mut self, page: u32, layouts: &Layouts, live: &Row) -> Option<LiveObjects>
+        ensures objects { IfSome result (λ o. (words : List ℕ) × (words_at self.old page ≡ Some words)
+            × (o ≡ objects_in layouts.now words live.now)) }
+        ensures stays { self.new ≡ self.old }
+    {
+        let frame = self.frame(page)?;
+        if frame as usize >= self.frames.len() {
+            return None;
+        }
+        self.frames.take_objects(frame as usize, layouts, live)
     }
 }
