@@ -145,6 +145,7 @@ pub(crate) fn draft_pages(
     ensures plan { IfOk result (λ d. flat_map places_of d.drafts.items ≡ plan_of heap.old pages.now) }
     ensures objects { IfOk result (λ d. d.objects ≡ length (plan_of heap.old pages.now)) }
     ensures targets { IfOk result (λ d. d.targets ≡ target_count (plan_of heap.old pages.now)) }
+    ensures stays { heap.new ≡ heap.old }
 {
     let mut drafts = Vec::with_capacity(alloc, pages.len())?;
     let mut end = Slot::first();
