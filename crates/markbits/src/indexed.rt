@@ -132,8 +132,15 @@ impl IndexedRows {
         settle(&mut self.busy, &self.rows, index);
     }
 
-    /// Returns a bitmap of `words` clear bits: of memory that was kept when a bitmap was given up, or new. Fails only
-    /// if out of memory.
+    /// Prepares memory for one more bitmap of `words` bits, as `Rows::prepare`. Fails only if out of memory.
+    pub fn prepare(&mut self, words: u32) -> Result<(), AllocError>
+        ensures { self.new ≡ self.old }
+    {
+        self.rows.prepare(words)
+    }
+
+    /// Returns a bitmap of `words` clear bits: of memory that was kept when a bitmap was given up, that was prepared, or
+    /// new. Fails only if out of memory.
     pub fn blank(&mut self, words: u32) -> Result<Row, AllocError>
         ensures value { IfOk result (λ r. r ≡ replicate words false) }
         ensures stays { self.new ≡ self.old }
@@ -141,7 +148,8 @@ impl IndexedRows {
         self.rows.blank(words)
     }
 
-    /// Frees the memory that is kept of bitmaps that were given up, except that of the first `most`.
+    /// Frees the memory that is kept of bitmaps that were given up, and of those that were prepared, except that of
+    /// the first `most`.
     pub fn trim(&mut self, most: usize)
         ensures { self.new ≡ self.old }
     {

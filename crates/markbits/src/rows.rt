@@ -279,6 +279,8 @@ pub struct Rows {
     pub(crate) rows: Vec<Row>,
     /// No bitmap before this index keeps memory after it was given up.
     first_kept: usize,
+    /// Bitmaps that were prepared for `blank`.
+    prepared: Vec<Row>,
 }
 
 impl Model for Rows {
@@ -311,6 +313,7 @@ impl Rows {
         Ok(Rows {
             rows,
             first_kept: 0,
+            prepared: Vec::new(alloc),
         })
     }
 
@@ -427,8 +430,33 @@ impl Rows {
         }
     }
 
-    /// Returns a bitmap of `words` clear bits: of memory that was kept when a bitmap was given up, or new. Fails only
-    /// if out of memory.
+    /// Prepares memory for one more bitmap of `words` bits, which `blank` returns when no given up bitmap keeps any.
+    /// Fails only if out of memory.
+    pub fn prepare(&mut self, words: u32) -> Result<(), AllocError>
+        ensures { self.new ≡ self.old }
+    {
+        let alloc = *self.rows.allocator();
+        self.prepared.push(Row::new(alloc, words)?)?;
+        Ok(())
+    }
+
+    /// Returns a bitmap of `words` clear bits that was prepared, or a new one. Fails only if out of memory.
+    fn blank_prepared(&mut self, words: u32) -> Result<Row, AllocError>
+        ensures value { IfOk result (λ r. r ≡ replicate words false) }
+        ensures stays { self.new ≡ self.old }
+    {
+        if let Some(row) = self.prepared.pop() {
+            let mut row = row;
+            if row.len() == words as usize {
+                row.clear();
+                return Ok(row);
+            }
+        }
+        Row::new(*self.rows.allocator(), words)
+    }
+
+    /// Returns a bitmap of `words` clear bits: of memory that was kept when a bitmap was given up, that was prepared, or
+    /// new. Fails only if out of memory.
     pub fn blank(&mut self, words: u32) -> Result<Row, AllocError>
         ensures value { IfOk result (λ r. r ≡ replicate words false) }
         ensures stays { self.new ≡ self.old }
@@ -441,10 +469,11 @@ impl Rows {
                 return Ok(row);
             }
         }
-        Row::new(*self.rows.allocator(), words)
+        self.blank_prepared(words)
     }
 
-    /// Frees the memory that is kept of bitmaps that were given up, except that of the first `most`.
+    /// Frees the memory that is kept of bitmaps that were given up, and of those that were prepared, except that of
+    /// the first `most`.
     pub fn trim(&mut self, most: usize)
         ensures { self.new ≡ self.old }
     {
@@ -454,6 +483,7 @@ impl Rows {
             let row = &mut self.rows[index];
             row.trim(&mut most);
         }
+        self.prepared.truncate(most);
     }
 
     /// Clears all bitmaps. One without a set bit costs one test.

@@ -9,12 +9,13 @@ use forward::{LiveObjects, Sizes};
 use std::alloc::AllocError;
 
 impl Heap {
-    /// Keeps the sizes of the live objects of a page, by its number from 1, until a word of the page is written. Fails
-    /// only if out of memory. Nothing else changes.
+    /// Keeps the sizes of the live objects of a page, by its number from 1, until a word of the page is written. It also
+    /// frees some forwarding tables that a mark's end cleared. Fails only if out of memory. Nothing else changes.
     pub fn keep_sizes(&mut self, page: u32) -> Result<(), AllocError>
         ensures { self.new ≡ self.old }
     {
         self.law();
+        self.tidy();
         match self.live.get(page.saturating_sub(1) as usize) {
             None => Ok(()),
             Some(row) => self.store.keep_sizes(page, &self.config.layouts, row),

@@ -142,12 +142,24 @@ impl Heap {
         self.phase = Phase::ProtectCrossing;
     }
 
-    /// Allocates memory for one more page and keeps it, cleared, for a page that opens later. It also frees some
-    /// forwarding tables that a mark's end cleared. Fails only if out of memory. Nothing else changes.
+    /// Allocates the bitmaps of one more page and keeps them for a page that opens later. Fails only if out of memory.
+    fn prepare_rows(&mut self) -> Result<(), AllocError>
+        ensures { self.new ≡ self.old }
+    {
+        let words = self.store.page_words();
+        self.starts.prepare(words)?;
+        self.live.prepare(words)?;
+        self.mark.prepare(words)?;
+        self.todo.prepare(words)
+    }
+
+    /// Allocates memory for one more page, its words and its bitmaps, and keeps it, cleared, for a page that opens later.
+    /// It also frees some forwarding tables that a mark's end cleared. Fails only if out of memory. Nothing else changes.
     pub fn prepare_frame(&mut self) -> Result<(), AllocError>
         ensures { self.new ≡ self.old }
     {
         self.tidy();
+        self.prepare_rows()?;
         self.store.prepare_frame()
     }
 
