@@ -130,7 +130,7 @@ one_there w s n l = by_test (nat_le (s.offset + n) w) refl
     by_test true e = refl
     by_test false e = absurd (omega (arith, l, leb-false (s.offset + n) w e))
 
--- the first of the objects from number i up to j that fit together is packed there, and the others fit behind it
+-- the first of the objects from number i up to j that fit together is packed there, and the others fit after it
 module _ (w : ℕ) (s : Packing) (ns : List ℕ) (i j : ℕ) (low : i < j) (l : j ≤ length ns)
     (fits : s.offset + (words_before ns j - words_before ns i) ≤ w) where
   abbrev first_size : ℕ

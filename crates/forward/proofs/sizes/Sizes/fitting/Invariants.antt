@@ -1,4 +1,4 @@
-use Rattle.std.proofs.Common.{◌+◌, ◌-◌, ◌<◌, ◌≤◌, length}
+use Rattle.std.proofs.Common.{◌-◌, ◌<◌, ◌≤◌, length}
 use Rattle.forward.specs.Sizes.{words_before}
 use Rattle.forward.proofs.sizes.Sizes.fitting.Given as goal
 
