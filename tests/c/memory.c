@@ -1,5 +1,6 @@
-/* The library's memory: that it is all given back, that a call which lacks some says so and writes nothing, and that a
- * verification looks at it. The program is linked with malloc, realloc and free wrapped by the functions below. */
+/* The library's memory: that it is all given back, that a call which lacks some says so and writes nothing, that a
+ * verification looks at it, and that what the heap keeps for later is freed. The program is linked with malloc, realloc
+ * and free wrapped by the functions below. */
 #include "same.h"
 #include <stdlib.h>
 
@@ -7,7 +8,7 @@ void *__real_malloc(size_t size);
 void *__real_realloc(void *block, size_t size);
 void __real_free(void *block);
 
-enum { MOST_BLOCKS = 4096 };
+enum { MOST_BLOCKS = 4096, FRAMES = 4, BITMAPS = 4 };
 
 /* The blocks that are in use. */
 static struct {
@@ -57,7 +58,7 @@ void __wrap_free(void *block) {
     __real_free(block);
 }
 
-static const pauseless_sizes sizes = {.words = 64, .frames = 4, .pages = 12, .threads = 1, .workers = 1,
+static const pauseless_sizes sizes = {.words = 64, .frames = FRAMES, .pages = 12, .threads = 1, .workers = 1,
                                       .registers = 3, .globals = 1, .births = 1000};
 static const pauseless_layout layouts[] = {{.refs = 1, .nums = 1}, {.refs = 0, .nums = 30}};
 static const pauseless_policy policy = {.words = 64, .free = 0, .percent = 75};
@@ -214,6 +215,64 @@ static void verification_looks(void) {
     SAME(in_use, 0);
 }
 
+/* How many blocks are freed if the memory of at most this many free frames is kept. */
+static unsigned frees(uint32_t frames) {
+    const unsigned before = in_use;
+    DONE(pauseless_trim(&heap, frames));
+    return before - in_use;
+}
+
+/* Two sparse pages, which a collection has emptied. */
+static void makes_emptied(void) {
+    makes_sparse();
+    DONE(collects());
+}
+
+/* How many parts of the next collection are done until its mark has ended, and leaves the forwarding tables of the
+ * emptied pages to be freed; 0 if it leaves none. */
+static unsigned parts_of_mark(void) {
+    unsigned parts = 0, last = 0;
+    makes_emptied();
+    for (has_ended = false; !has_ended;) {
+        DONE(pauseless_collect_some(&heap, 100, 1, &has_ended));
+        parts++;
+        if (frees(FRAMES) > 0) last = parts;
+    }
+    pauseless_free(&heap);
+    return last;
+}
+
+/* A buffer that is taken after the mark frees them too. */
+static void buffer_frees(unsigned parts) {
+    makes_emptied();
+    for (unsigned done = 0; done < parts; done++) DONE(pauseless_collect_some(&heap, 100, 1, &has_ended));
+    DONE(pauseless_refill(&heap, &policy, 0));
+    SAME(frees(FRAMES), 0);
+    pauseless_free(&heap);
+}
+
+/* So does a collection by one call, before it protects pages again. At its end, what is kept is the memory of free
+ * frames, and the bitmaps of one page: those of the other are the new page's. */
+static void collection_frees(void) {
+    uint64_t kept = 0;
+    makes_emptied();
+    DONE(collects());
+    SAME(frees(FRAMES), 0);
+    DONE(pauseless_kept(&heap, &kept));
+    SAME(kept, 2);
+    SAME(frees(0), kept + BITMAPS);
+    SAME(frees(0), 0);
+    pauseless_free(&heap);
+}
+
+static void memory_is_freed(void) {
+    const unsigned parts = parts_of_mark();
+    SAME(parts > 0, true);
+    buffer_frees(parts);
+    collection_frees();
+    SAME(in_use, 0);
+}
+
 int main(void) {
     lacks(makes, 20);
     lacks(collects, 5);
@@ -223,5 +282,6 @@ int main(void) {
     lacks(verifies, 10);
     counts_what_has_begun();
     verification_looks();
+    memory_is_freed();
     return differences > 0;
 }

@@ -1,6 +1,7 @@
 -- Next fit, object by object, is the plan's next fit.
 use Rattle.std.proofs.Common.{◌≡◌, ℕ, ◌+◌, ◌-◌, ◌<◌, ◌≤◌, Bool, true, false, List, [], ◌∷◌, ◌++◌, cond}
 use Rattle.std.proofs.Common.{zero, suc, drop, length, map, nat_le, refl, sym, ap, ◌∙◌, arith, Some, None}
+use Rattle.std.proofs.lemmas.Bool.{leb-false}
 use Rattle.std.proofs.lemmas.List.{drop_all}
 use Rattle.std.proofs.lemmas.Option.{same_Some}
 use Rattle.std.specs.List.{slice_get}
@@ -8,7 +9,9 @@ use Rattle.model.specs.States.{HeapState}
 use Rattle.model.specs.Plans.{offsets_from, live_offsets, places_from, target_count}
 use Rattle.model.proofs.OfPages.{of_page_none, of_page_some}
 use Rattle.choosing.specs.declared.packing.Packing.{Packing}
-use Rattle.choosing.specs.Packings.{pack, pack_one, first_packing}
+use Rattle.forward.specs.Sizes.{words_before}
+use Rattle.forward.proofs.Summed.{before_grows, before_more, size_read}
+use Rattle.choosing.specs.Packings.{pack, pack_one, packed_there, first_packing}
 use Rattle.choosing.specs.Choices.{size_on, sizes_on}
 
 -- one more object
@@ -99,19 +102,77 @@ grown w s (n ∷ ns) last there =
     let rest = grown w (pack_one w s n) ns one.last one.there in
     record { more = omega (arith, one.more, rest.more); last = rest.last; there = rest.there }
 
+-- an object is the first of those from its number on
+left_from : (ns : List ℕ) (i n : ℕ) → slice_get ns i ≡ Some n → drop i ns ≡ n ∷ drop (suc i) ns
+left_from [] i n k = absurd (cc)
+left_from (m ∷ ns) zero n k = ap (λ x. x ∷ ns) (same_Some m n k)
+left_from (m ∷ ns) (suc i) n k = left_from ns i n k
+
 -- objects of these sizes are packed one after another
 pub more_packed : (w : ℕ) (s new whole : Packing) (ns : List ℕ) (i n : ℕ) → slice_get ns i ≡ Some n
     → new ≡ pack_one w s n → pack w s (drop i ns) ≡ whole → pack w new (drop (i + 1) ns) ≡ whole
 more_packed w s new whole ns i n e more so_far =
     let one : suc i ≡ i + 1 = omega arith in
     ap (λ z. pack w z (drop (i + 1) ns)) more ∙ ap (λ k. pack w (pack_one w s n) (drop k ns)) (sym one)
-    ∙ sym (ap (pack w s) (left ns i e)) ∙ so_far
-  where
-    left : (ns : List ℕ) (i : ℕ) → slice_get ns i ≡ Some n → drop i ns ≡ n ∷ drop (suc i) ns
-    left [] i k = absurd (cc)
-    left (m ∷ ns) zero k = ap (λ x. x ∷ ns) (same_Some m n k)
-    left (m ∷ ns) (suc i) k = left ns i k
+    ∙ sym (ap (pack w s) (left_from ns i n e)) ∙ so_far
 
 pub all_packed : (w : ℕ) (s whole : Packing) (ns : List ℕ) (i : ℕ) → length ns ≤ i → pack w s (drop i ns) ≡ whole
     → s ≡ whole
 all_packed w s whole ns i l so_far = ap (pack w s) (sym (drop_all i ns l)) ∙ so_far
+
+-- an object that fits is packed there
+one_there : (w : ℕ) (s : Packing) (n : ℕ) → s.offset + n ≤ w → pack_one w s n ≡ packed_there s n
+unfolding pack_one
+one_there w s n l = by_test (nat_le (s.offset + n) w) refl
+  where
+    by_test : (b : Bool) → nat_le (s.offset + n) w ≡ b → cond b (packed_there s n)
+        (record { target = s.target + 1; offset = n; count = s.target + 2 }) ≡ packed_there s n
+    by_test true e = refl
+    by_test false e = absurd (omega (arith, l, leb-false (s.offset + n) w e))
+
+-- the first of the objects from number i up to j that fit together is packed there, and the others fit after it
+module _ (w : ℕ) (s : Packing) (ns : List ℕ) (i j : ℕ) (low : i < j) (l : j ≤ length ns)
+    (fits : s.offset + (words_before ns j - words_before ns i) ≤ w) where
+  abbrev first_size : ℕ
+  first_size = words_before ns (suc i) - words_before ns i
+
+  there : slice_get ns i ≡ Some first_size
+  there = size_read ns i (omega (arith, low, l))
+
+  step : words_before ns (suc i) ≡ words_before ns i + first_size
+  step = before_more ns i first_size there
+
+  up : words_before ns (suc i) ≤ words_before ns j
+  up = before_grows ns (suc i) j (omega (arith, low))
+
+  first_there : pack w s (drop i ns) ≡ pack w (packed_there s first_size) (drop (suc i) ns)
+  first_there = ap (pack w s) (left_from ns i first_size there)
+      ∙ ap (λ z. pack w z (drop (suc i) ns)) (one_there w s first_size (omega (arith, fits, step, up)))
+
+  both : s.offset + first_size + (words_before ns j - words_before ns (suc i))
+      ≡ s.offset + (words_before ns j - words_before ns i)
+  both = omega (arith, step, up)
+
+-- so are all of them
+up_to : (w : ℕ) (s : Packing) (ns : List ℕ) (i j k : ℕ) → j ≡ i + suc k → j ≤ length ns
+    → s.offset + (words_before ns j - words_before ns i) ≤ w
+    → pack w s (drop i ns) ≡ pack w (packed_there s (words_before ns j - words_before ns i)) (drop j ns)
+up_to w s ns i j zero e l fits =
+    let is : suc i ≡ j = omega (arith, e) in
+    first_there w s ns i j (omega (arith, e)) l fits
+    ∙ ap (λ m. pack w (packed_there s (words_before ns m - words_before ns i)) (drop m ns)) is
+up_to w s ns i j (suc k) e l fits =
+    let low : i < j = omega (arith, e) in
+    let sum = both w s ns i j low l fits in
+    first_there w s ns i j low l fits
+    ∙ up_to w (packed_there s (first_size w s ns i j low l fits)) ns (suc i) j k (omega (arith, e)) l
+    (omega (arith, sum, fits))
+    ∙ ap (λ o. pack w (record { target = s.target; offset = o; count = s.target + 1 }) (drop j ns)) sum
+
+pub packed_up_to : (w : ℕ) (s new whole : Packing) (ns : List ℕ) (i j : ℕ) → i < j → j ≤ length ns
+    → s.offset + (words_before ns j - words_before ns i) ≤ w
+    → new ≡ packed_there s (words_before ns j - words_before ns i) → pack w s (drop i ns) ≡ whole
+    → pack w new (drop j ns) ≡ whole
+packed_up_to w s new whole ns i j low l fits is so_far =
+    let e : j ≡ i + suc (j - i - 1) = omega (arith, low) in
+    ap (λ z. pack w z (drop j ns)) is ∙ sym (up_to w s ns i j (j - i - 1) e l fits) ∙ so_far

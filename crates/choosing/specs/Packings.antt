@@ -11,6 +11,10 @@ pack_one words s n =
     if nat_le (s.offset + n) words then record { target = s.target; offset = s.offset + n; count = s.target + 1 }
     else record { target = s.target + 1; offset = n; count = s.target + 2 }
 
+-- after objects of n words together that fit in the present target
+abbrev pub packed_there : Packing → ℕ → Packing
+packed_there s n = record { target = s.target; offset = s.offset + n; count = s.target + 1 }
+
 -- after objects of these sizes
 abbrev pub pack : ℕ → Packing → List ℕ → Packing
 pack words s [] = s

@@ -1,9 +1,10 @@
-//! Next fit, object by object.
+//! Next fit: object by object, or by the sums of sizes that are kept.
 
-ghost use Rattle.std.specs.Prelude.{◌≡◌, ◌<◌, ◌≤◌, ◌+◌, ◌^◌, length, map};
+ghost use Rattle.std.specs.Prelude.{◌≡◌, ◌<◌, ◌≤◌, ◌+◌, ◌-◌, ◌^◌, length, map};
 ghost use Rattle.model.specs.Plans.{offsets_from};
+ghost use Rattle.forward.specs.Sizes.{words_before};
 ghost use Rattle.choosing.specs.Choices.{size_on, sizes_on};
-ghost use Rattle.choosing.specs.Packings.{has_page_for, pack, pack_if, pack_one, first_packing};
+ghost use Rattle.choosing.specs.Packings.{has_page_for, pack, pack_if, pack_one, packed_there, first_packing};
 
 use forward::Sizes;
 use heap::{Heap, Row};
@@ -52,14 +53,55 @@ fn pack_one(words: u32, before: Packing, size: u32) -> Packing
     }
 }
 
-/// Returns the packing after objects of these sizes, in targets of `words` words.
+/// Returns the greatest number up to which the objects from one on fit in the present target, of `words` words.
+fn fitting(words: u32, packing: &Packing, sizes: &Sizes, number: usize) -> usize
+    requires { number ≤ length sizes.now }
+    ensures low { number ≤ result }
+    ensures high { result ≤ length sizes.now }
+    ensures fits { number < result
+        → packing.now.offset + (words_before sizes.now result - words_before sizes.now number) ≤ words }
+    ensures greatest { result < length sizes.now
+        → words < packing.now.offset + (words_before sizes.now (result + 1) - words_before sizes.now number) }
+{
+    if packing.offset > words {
+        return number;
+    }
+    sizes.fitting(number, words - packing.offset)
+}
+
+/// Returns the packing after the objects from one number up to another, which fit in the present target.
+fn pack_fitting(packing: Packing, sizes: &Sizes, from: usize, to: usize) -> Packing
+    requires order { from ≤ to }
+    requires within { to ≤ length sizes.now }
+    requires fits { packing.offset + (words_before sizes.now to - words_before sizes.now from) < 2 ^ 32 }
+    requires targets { packing.target < 2 ^ 34 }
+    ensures { result ≡ packed_there packing (words_before sizes.now to - words_before sizes.now from) }
+{
+    Packing {
+        target: packing.target,
+        offset: packing.offset + (sizes.before(to) - sizes.before(from)),
+        count: packing.target + 1,
+    }
+}
+
+/// Returns the packing after objects of these sizes, in targets of `words` words. How many fit in a target is found by
+/// halving.
 fn pack_sizes(words: u32, sizes: &Sizes, before: Packing) -> Packing
     requires targets { before.target ≤ 2 ^ 32 }
     ensures { result ≡ pack words before sizes.now }
 {
+    let count = sizes.len();
     let mut packing = before;
-    for number in 0..sizes.len() {
-        packing = pack_one(words, packing, sizes.size(number));
+    let mut number = 0;
+    while number < count {
+        let next = fitting(words, &packing, sizes, number);
+        if next > number {
+            packing = pack_fitting(packing, sizes, number, next);
+            number = next;
+        } else {
+            packing = pack_one(words, packing, sizes.size(number));
+            number += 1;
+        }
     }
     packing
 }

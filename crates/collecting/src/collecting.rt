@@ -9,7 +9,7 @@ ghost use Rattle.managed.specs.Bytes.{EndsReadingBytes, EndsWritingBytes};
 ghost use Rattle.managed.specs.Data.{EndsCopying, EndsReading, EndsWriting};
 ghost use Rattle.managed.specs.Goings.{LoadsWhole, LoadStands};
 ghost use Rattle.managed.specs.Scrubbing.{AreScrubbed};
-ghost use Rattle.collecting.specs.Collections.{Collects, CollectsWhole, EndsCollecting, IsNotRoom};
+ghost use Rattle.collecting.specs.Collections.{Collects, EndsCollecting, IsNotRoom};
 ghost use Rattle.collecting.specs.Filling.{EndsMakingWith};
 ghost use Rattle.collecting.specs.Objects.{seen};
 ghost use Rattle.collecting.specs.Pacing.{MakesPaced};
@@ -18,9 +18,9 @@ ghost use Rattle.collecting.specs.Stages.{PartGoesOn};
 ghost use Rattle.collecting.specs.Rooms.{EndsMaking, EndsRefill, IsNotHeld, MakingStands, Refills};
 ghost use Rattle.collecting.specs.Targets.{followed, in_use};
 
-use crate::cycles::run_cycle;
-use crate::leftovers::settle;
+use crate::cycles::collect_whole;
 use crate::low::in_use;
+use crate::marking::Alone;
 use crate::parts::Parts;
 use crate::policy::Policy;
 use crate::seeing::Object;
@@ -357,7 +357,7 @@ impl Holding for ManagedHeap {
         ensures room { IsNotRoom result }
         ensures scrubbed { IfOk result (λ collected. AreScrubbed self.new) }
     {
-        collect_whole(self, alloc, percent)
+        collect_whole(self, alloc, percent, &Alone)
     }
 
     fn collect_some(
@@ -481,19 +481,5 @@ impl Holding for ManagedHeap {
             let allowed = target.frames().saturating_sub(used);
             ManagedHeap::trim(self, allowed as usize);
         }
-    }
-}
-
-pub(crate) fn collect_whole(
-    heap: &mut ManagedHeap,
-    alloc: Global,
-    percent: u32,
-) -> Result<Collected, Refusal>
-    ensures ends { CollectsWhole percent heap.old result heap.new }
-    ensures scrubbed { IfOk result (λ collected. AreScrubbed heap.new) }
-{
-    match settle(heap) {
-        Ok(()) => run_cycle(heap, alloc, percent),
-        Err(refusal) => Err(refusal),
     }
 }

@@ -10,8 +10,10 @@ ghost use Rattle.collecting.specs.Parts.{EndsPart};
 ghost use Rattle.collecting.specs.Stages.{PartGoesOn};
 ghost use Rattle.collecting.specs.Targets.{in_use};
 
-use crate::collecting::{Collected, collect_whole};
+use crate::collecting::Collected;
+use crate::cycles::collect_whole;
 use crate::low::in_use;
+use crate::marking::Alone;
 use crate::parts::{Parts, collect_some};
 use heap::Heap;
 use managed::ManagedHeap;
@@ -167,7 +169,7 @@ pub(crate) fn collect_counted(
     ensures counts { counters.new ≡ counted cause result counters.old }
 {
     counters.begin(cause);
-    let result = collect_whole(heap, alloc, percent);
+    let result = collect_whole(heap, alloc, percent, &Alone);
     counters.end(&result);
     result
 }

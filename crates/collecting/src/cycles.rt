@@ -2,35 +2,36 @@
 
 ghost use Rattle.std.specs.Prelude.{◌≡◌, IfOk, true};
 ghost use Rattle.managed.specs.Scrubbing.{AreScrubbed, needs_no_scrub};
-ghost use Rattle.collecting.specs.Collections.{Collects, EndsBehind, EndsChoice, EndsChosen, EndsCycle, EndsDueMark};
-ghost use Rattle.collecting.specs.Collections.{MarksWhole};
+ghost use Rattle.collecting.specs.Collections.{Collects, CollectsWhole, EndsBehind, EndsChoice, EndsChosen, EndsCycle};
+ghost use Rattle.collecting.specs.Collections.{EndsDueMark, MarksWhole};
 
 use crate::collecting::Collected;
 use crate::leftovers::settle;
+use crate::marking::Marking;
 use choosing::{Choice, choose_measured};
 use managed::ManagedHeap;
 use model::Refusal;
 use std::alloc::Global;
 
 /// Runs the mark that is due: the rest of the one that runs, else a complete one.
-fn mark_due(heap: &mut ManagedHeap) -> Result<u64, Refusal>
+fn mark_due<M: Marking>(heap: &mut ManagedHeap, by: &M) -> Result<u64, Refusal>
     ensures goes { Collects heap.old heap.new }
     ensures ends { EndsDueMark heap.old result heap.new }
 {
     if heap.heap().phase().is_marking() {
-        heap.finish_mark(0)
+        by.finish(heap)
     } else {
-        heap.mark(0)
+        by.mark(heap)
     }
 }
 
 /// Finishes whatever an earlier collection has left, and then runs the mark that is due. Returns how many objects
 /// live.
-pub(crate) fn mark_whole(heap: &mut ManagedHeap) -> Result<u64, Refusal>
+pub(crate) fn mark_whole<M: Marking>(heap: &mut ManagedHeap, by: &M) -> Result<u64, Refusal>
     ensures { MarksWhole heap.old result heap.new }
 {
     match settle(heap) {
-        Ok(()) => mark_due(heap),
+        Ok(()) => mark_due(heap, by),
         Err(refusal) => Err(refusal),
     }
 }
@@ -69,7 +70,7 @@ fn empty_choice(heap: &mut ManagedHeap, live: u64, choice: Choice) -> Result<Col
 }
 
 /// Chooses pages and empties them, after a mark that found `live` objects.
-pub(crate) fn empty_behind(
+fn empty_after(
     heap: &mut ManagedHeap,
     alloc: Global,
     percent: u32,
@@ -85,16 +86,33 @@ pub(crate) fn empty_behind(
 }
 
 /// Runs a mark, and then chooses pages and empties them.
-pub(crate) fn run_cycle(
+fn run_cycle<M: Marking>(
     heap: &mut ManagedHeap,
     alloc: Global,
     percent: u32,
+    by: &M,
 ) -> Result<Collected, Refusal>
     ensures ends { EndsCycle percent heap.old result heap.new }
     ensures scrubbed { IfOk result (λ collected. AreScrubbed heap.new) }
 {
-    match mark_due(heap) {
-        Ok(live) => empty_behind(heap, alloc, percent, live),
+    match mark_due(heap, by) {
+        Ok(live) => empty_after(heap, alloc, percent, live),
+        Err(refusal) => Err(refusal),
+    }
+}
+
+/// Does what is left of an emptying, and then a cycle.
+pub(crate) fn collect_whole<M: Marking>(
+    heap: &mut ManagedHeap,
+    alloc: Global,
+    percent: u32,
+    by: &M,
+) -> Result<Collected, Refusal>
+    ensures ends { CollectsWhole percent heap.old result heap.new }
+    ensures scrubbed { IfOk result (λ collected. AreScrubbed heap.new) }
+{
+    match settle(heap) {
+        Ok(()) => run_cycle(heap, alloc, percent, by),
         Err(refusal) => Err(refusal),
     }
 }

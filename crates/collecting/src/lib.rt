@@ -12,6 +12,7 @@ mod faults;
 mod filling;
 mod leftovers;
 mod low;
+mod marking;
 mod numbers;
 mod pacing;
 mod parts;

@@ -9,6 +9,7 @@ ghost use Rattle.collecting.specs.Rooms.{EndsMaking, HasMarkedSince, IsAny, Refi
 
 use crate::counting::{Cause, Counters, collect_counted};
 use crate::cycles::mark_whole;
+use crate::marking::Alone;
 use crate::low::are_low;
 use crate::policy::Policy;
 use cycle::Mutating;
@@ -37,7 +38,7 @@ fn take(heap: &mut ManagedHeap, policy: Policy, thread: u32) -> Result<Buffer, R
 fn mark_and_take(heap: &mut ManagedHeap, policy: Policy, thread: u32) -> Result<Buffer, Refusal>
     ensures { RefillsBy (HasMarkedSince thread) thread policy.words policy.percent heap.old result heap.new }
 {
-    match mark_whole(heap) {
+    match mark_whole(heap, &Alone) {
         Ok(_) => take(heap, policy, thread),
         Err(refusal) => Err(refusal),
     }

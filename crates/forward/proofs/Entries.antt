@@ -14,7 +14,7 @@ use Rattle.model.proofs.Plans.{rising_within}
 
 -- order
 
--- each entry lies behind those before it
+-- each entry lies after those before it
 pub ascends : (w low : ℕ) (fs : List Forwarding) (i j : ℕ) (f g : Forwarding) → AreRising w low fs → i < j
     → slice_get fs i ≡ Some f → slice_get fs j ≡ Some g → f.offset < g.offset
 ascends w low [] i j f g r l e k = absurd (cc)
@@ -52,8 +52,8 @@ entry_here w low (x ∷ fs) o zero f r e k =
     let is : (x.offset == o) ≡ true = eq-eqb x.offset o (ap (λ (z : Forwarding). z.offset) (same_Some _ _ e) ∙ k) in
     ap (λ b. cond b (Some x) (entry_of fs o)) is ∙ e
 entry_here w low (x ∷ fs) o (suc i) f r e k =
-    let behind = (rising_within w (x.offset + 1) fs i f r.2 e).0 in
-    let is : (x.offset == o) ≡ false = ne_eqb x.offset o (λ z. omega (arith, z, k, behind)) in
+    let after = (rising_within w (x.offset + 1) fs i f r.2 e).0 in
+    let is : (x.offset == o) ≡ false = ne_eqb x.offset o (λ z. omega (arith, z, k, after)) in
     ap (λ b. cond b (Some x) (entry_of fs o)) is ∙ entry_here w (x.offset + 1) fs o i f r.2 e k
 
 -- the entry of a number, whose offset is the one that is sought

@@ -29,7 +29,7 @@ module _ (live : List Bool) (places : List ℕ) (copied : List Bool) where
   pub place_read : (i to : ℕ) → i < length places → to ≡ get_or places i 0 → Some to ≡ place_of (slice_get all i)
   place_read i to l at = ap Some at ∙ sym (ap place_of (entry_read live places copied i l))
 
-  -- there is none behind the last
+  -- there is none after the last
   pub none_there : (i : ℕ) → length places ≤ i → None ≡ slice_get all i
   none_there i l = past_all all i (omega (arith, l, entries_many live places copied))
 
@@ -68,15 +68,15 @@ module _ (live : List Bool) (places : List ℕ) (copied : List Bool) where
           let more = sum_by-set as_one copied i true false (omega (arith, l, is.flags)) in
           omega (arith, left_of live places copied is, left_of live places (set copied i true) still, more, before)
 
-  -- the entry behind another
+  -- the entry after another
   module _ (is : AreEntries live places copied) (i before : ℕ) (low : 0 < i)
       (at : offset_of (slice_get all (i - 1)) ≡ Some before) where
     same_offset : (o : Option Forwarding) (f : Forwarding) → o ≡ Some f → offset_of o ≡ Some before → f.offset ≡ before
     same_offset o f a b = same_Some _ _ (sym (ap offset_of a) ∙ b)
 
-    -- so many are set below the place behind its offset
-    ranks_behind : i - 1 < length places → rank_of live (before + 1) ≡ i
-    ranks_behind l =
+    -- so many are set below the place after its offset
+    ranks_after : i - 1 < length places → rank_of live (before + 1) ≡ i
+    ranks_after l =
         let (k, bit) = bit_numbered 0 live (i - 1) (omega (arith, l, is.many)) in
         let here : k ≡ before = omega (
           arith,
@@ -87,17 +87,17 @@ module _ (live : List Bool) (places : List ℕ) (copied : List Bool) where
         let one : as_one (get_or live k false) ≡ 1 = ap as_one bit.set in
         ap (λ o. rank_of live (o + 1)) (sym here) ∙ omega (arith, rank_next live k, one, bit.rank, low)
 
-    pub behind_offset : (k : ℕ) → i < length places → IsFirstFrom live (before + 1) k
+    pub offset_after : (k : ℕ) → i < length places → IsFirstFrom live (before + 1) k
         → k ≡ get_or (offsets_from 0 live) i 0
-    behind_offset k l first =
-        let rank : rank_of live k ≡ i = rank_first live (before + 1) k first ∙ ranks_behind (omega (arith, l)) in
+    offset_after k l first =
+        let rank : rank_of live k ≡ i = rank_first live (before + 1) k first ∙ ranks_after (omega (arith, l)) in
         let ranked = ranked_offset 0 live k first.here in
         let read = ap (λ n. get_or (offsets_from 0 live) n 0) rank in omega (arith, ranked, read)
 
-    pub none_behind : i < length places → IsNextPlace live (before + 1) None → None ≡ slice_get all i
-    none_behind l none =
+    pub none_after : i < length places → IsNextPlace live (before + 1) None → None ≡ slice_get all i
+    none_after l none =
         let many = rank_all live (before + 1) none in
-        absurd (omega (arith, many, ranks_behind (omega (arith, l)), is.many, l))
+        absurd (omega (arith, many, ranks_after (omega (arith, l)), is.many, l))
 
   -- what is kept of an entry
   module _ (is : AreEntries live places copied) where

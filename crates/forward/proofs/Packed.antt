@@ -46,7 +46,7 @@ run_last r (q ∷ qs) i j (low, h) l = by_test (nat_le q.first j) refl (run_last
     by_test true e rest = rest
     by_test false e rest = absurd (omega (arith, low, l, leb-false q.first j e))
 
--- a run that begins behind an object isn't its run
+-- a run that begins after an object isn't its run
 run_before : (r : Run) (rs : List Run) (q : Run) (j : ℕ) → j < q.first → run_of r (rs ++ q ∷ []) j ≡ run_of r rs j
 run_before r [] q j l = by_test (nat_le q.first j) refl
   where
@@ -114,7 +114,7 @@ knows_more : (ns : List ℕ) (rs : List Run) (q : Run) → AreBegun ns rs → q.
 knows_more ns [] q h l f = (l, f, tt)
 knows_more ns (r ∷ rs) q (a, b, h) l f = (a, b, knows_more ns rs q h l f)
 
--- the first i objects of these sizes are placed behind what ends at a place: the runs so far, the last one, and where
+-- the first i objects of these sizes are placed after what ends at a place: the runs so far, the last one, and where
 -- they end
 pub record ArePlaced (w : ℕ) (end : ℕ × ℕ) (ns : List ℕ) (i : ℕ) (first last : Run) (more : List Run) (at : ℕ × ℕ)
     : Type 0 where

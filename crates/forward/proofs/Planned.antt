@@ -163,8 +163,8 @@ near_places w t o (n ∷ ns) (suc i) k (suc j) p q sum first at few =
 ends_before : (n : ℕ) (p q : ℕ × ℕ) → IsBefore n p q → EndsBefore n p q
 ends_before n p q k = elim k.order [ inl l ↦ inr l | inr e ↦ inl e ]
 
-behind : (k : ℕ) → k + 1 ≡ suc k
-behind k = omega arith
+plus_one : (k : ℕ) → k + 1 ≡ suc k
+plus_one k = omega arith
 
 are_planned : (w : ℕ) (ns : List ℕ) → Each ns (λ n. n ≤ w) → ArePlanned w ns (places_from w 0 0 ns)
 are_planned w ns h = record {
@@ -177,7 +177,7 @@ are_planned w ns h = record {
   counted = λ i n p k. places_counted w 0 0 ns i p k.1;
   apart = λ i j m n p q l k z. ends_before m p q (places_apart w 0 0 ns h i j m n p q l k.0 k.1 z.0 z.1);
   near = λ i k m n p q first at few. near_places w 0 0 ns i k (i + k) p q refl first.1 at.1
-      (subst (λ c. total (take c (drop i ns)) ≤ w) (behind k) few);
+      (subst (λ c. total (take c (drop i ns)) ≤ w) (plus_one k) few);
 }
 
 -- these places are planned

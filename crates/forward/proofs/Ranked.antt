@@ -132,11 +132,11 @@ module _ (live : List Bool) (places : List ℕ) (copied : List Bool) where
               (λ some. omega (arith, offsets_rise 0 live a (omega (arith, e, some, is.many)), next a)),
         )
       where
-        behind : (n : ℕ) → suc n ≡ n + 1
-        behind n = omega arith
+        plus_one : (n : ℕ) → suc n ≡ n + 1
+        plus_one n = omega arith
 
         next : (n : ℕ) → get_or (offsets_from 0 live) (suc n) 0 ≡ get_or (offsets_from 0 live) (n + 1) 0
-        next n = ap (λ m. get_or (offsets_from 0 live) m 0) (behind n)
+        next n = ap (λ m. get_or (offsets_from 0 live) m 0) (plus_one n)
 
     pub entries_rise : AreRising MOST_WORDS 0 (entries_of live places copied)
     unfolding entries_of

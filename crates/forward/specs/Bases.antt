@@ -2,12 +2,12 @@
 use Rattle.std.specs.Prelude.{◌≡◌, ℕ, ◌+◌, ◌-◌, ◌*◌, ◌%◌, ◌^◌, ◌≤◌, List, [], ◌∷◌, nat_le, get_or, if◌then◌else◌}
 use Rattle.forward.specs.declared.runs.Run.{Run}
 
--- the base of address i: that of the last run that doesn't begin behind it
+-- the base of address i: that of the last run that doesn't begin after it
 abbrev pub base_of : ℕ → List Run → ℕ → ℕ
 base_of b [] i = b
 base_of b (r ∷ rs) i = base_of (if nat_le r.first i then r.target else b) rs i
 
--- a run is the last one: it is that of each address that it doesn't begin behind
+-- a run is the last one: its base is that of each address from its first one on
 abbrev pub IsLastRun : ℕ → List Run → Run → Type 0
 IsLastRun b rs r = (i : ℕ) → r.first ≤ i → base_of b rs i ≡ r.target
 

@@ -3,11 +3,11 @@ use Rattle.std.specs.Prelude.{ℕ, ◌+◌, ◌-◌, ◌^◌, ◌<◌, ◌≤◌
 use Rattle.forward.specs.Sizes.{words_before}
 use Rattle.forward.specs.declared.runs.Run.{Run}
 
--- the place of n words behind what ends at a place: there, or at the head of the next target if they don't fit
+-- the place of n words after what ends at a place: there, or at the head of the next target if they don't fit
 abbrev pub next_place : ℕ → ℕ × ℕ → ℕ → ℕ × ℕ
 next_place words end n = if nat_le (end.1 + n) words then end else (end.0 + 1, 0)
 
--- the run of object i: the last one that doesn't begin behind it
+-- the run of object i: the last one that doesn't begin after it
 abbrev pub run_of : Run → List Run → ℕ → Run
 run_of r [] i = r
 run_of r (q ∷ qs) i = run_of (if nat_le q.first i then q else r) qs i

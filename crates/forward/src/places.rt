@@ -16,7 +16,7 @@ use std::marker::Model;
 #[derive(Debug, Drop)]
 pub(crate) struct Places {
     /// The distance of each.
-    behind: Vec<u32, Global>,
+    distances: Vec<u32, Global>,
     /// The base of the first.
     base: u64,
     /// The other bases, as targets of runs.
@@ -33,9 +33,9 @@ impl Model for Places {
 
     ghost Value = { List ℕ };
 
-    ghost view = { λ p. addresses_from p.base p.more.items 0 p.behind.items };
+    ghost view = { λ p. addresses_from p.base p.more.items 0 p.distances.items };
 
-    ghost invariant = { λ p. Each (addresses_from p.base p.more.items 0 p.behind.items) IsAddress
+    ghost invariant = { λ p. Each (addresses_from p.base p.more.items 0 p.distances.items) IsAddress
         × IsLastRun p.base p.more.items p.last };
 }
 
@@ -134,7 +134,7 @@ impl Places {
         ensures { result ≡ [] }
     {
         Places {
-            behind: Vec::new(alloc),
+            distances: Vec::new(alloc),
             base: 0,
             more: Vec::new(alloc),
             last: Run {
@@ -159,7 +159,7 @@ impl Places {
         let base = run_base(words, targets, places.first);
         let last = last_run(base, &more);
         Places {
-            behind: places.sizes.into_sums(),
+            distances: places.sizes.into_sums(),
             base,
             more,
             last,
@@ -171,7 +171,7 @@ impl Places {
         requires { length places.now ≤ MOST_WORDS }
         ensures { IfOk result (λ p. p ≡ places.now) }
     {
-        let mut behind = Vec::with_capacity(alloc, places.len())?;
+        let mut distances = Vec::with_capacity(alloc, places.len())?;
         let mut more = Vec::new(alloc);
         let mut last = Run {
             first: 0,
@@ -182,7 +182,7 @@ impl Places {
         for number in 0..places.len() {
             let address = places[number].number();
             let low = address % (1 << 32);
-            behind.push(low as u32)?;
+            distances.push(low as u32)?;
             let run = Run {
                 first: number as u32,
                 before: 0,
@@ -193,7 +193,7 @@ impl Places {
         }
         let last = last_run(0, &more);
         Ok(Places {
-            behind,
+            distances,
             base: 0,
             more,
             last,
@@ -205,7 +205,7 @@ impl Places {
     pub fn len(&self) -> usize
         ensures { result ≡ length self.now }
     {
-        self.behind.len()
+        self.distances.len()
     }
 
     /// Returns an address by its number, from 0.
@@ -215,6 +215,6 @@ impl Places {
         ensures { result ≡ get_or self.now index 0 }
     {
         let base = base_at(self.base, &self.more, self.last, index);
-        Addr::new(base.wrapping_add(u64::from(self.behind[index]))).unwrap()
+        Addr::new(base.wrapping_add(u64::from(self.distances[index]))).unwrap()
     }
 }

@@ -24,7 +24,7 @@ pub struct Run {
     pub(crate) offset: u32,
 }
 
-/// Returns the place of an object of `size` words behind what ends at a place: there, or at the head of the next
+/// Returns the place of an object of `size` words after what ends at a place: there, or at the head of the next
 /// target, of `words` words, if it doesn't fit.
 #[inline(always)]
 pub(crate) fn next_place(words: u32, end: Slot, size: u32) -> Slot
@@ -45,7 +45,7 @@ pub(crate) fn next_place(words: u32, end: Slot, size: u32) -> Slot
 
 /// Returns where words that begin at a place end.
 #[inline(always)]
-fn behind(place: Slot, words: u32) -> Slot
+fn end_of(place: Slot, words: u32) -> Slot
     requires { place.1 + words < 2 ^ 32 }
     ensures { result ≡ (place.0, place.1 + words) }
 {
@@ -55,14 +55,17 @@ fn behind(place: Slot, words: u32) -> Slot
     }
 }
 
-/// Returns a number up to which the objects from one on fit behind what ends at a place of a target, of `words` words.
+/// Returns the greatest number up to which the objects from one on fit after what ends at a place of a target, of
+/// `words` words.
 #[inline(always)]
-fn fitting_behind(words: u32, end: Slot, sizes: &Sizes, number: usize) -> usize
+fn fitting_after(words: u32, end: Slot, sizes: &Sizes, number: usize) -> usize
     requires { number ≤ length sizes.now }
     ensures low { number ≤ result }
     ensures high { result ≤ length sizes.now }
     ensures fits { number < result
         → end.1 + (words_before sizes.now result - words_before sizes.now number) ≤ words }
+    ensures greatest { result < length sizes.now
+        → words < end.1 + (words_before sizes.now (result + 1) - words_before sizes.now number) }
 {
     if end.offset > words {
         return number;
@@ -106,7 +109,7 @@ pub(crate) fn add_run(runs: &mut Vec<Run>, last: Run, run: Run) -> Result<Run, A
 }
 
 impl Runs {
-    /// Plans places for a page's objects, in targets of `words` words, behind what ends at `end`, next fit: each
+    /// Plans places for a page's objects, in targets of `words` words, after what ends at `end`, next fit: each
     /// directly after the previous one, or at the head of the next target if it doesn't fit. Then `end` is where they
     /// end. Fails only if out of memory.
     pub fn new(alloc: Global, words: u32, end: &mut Slot, sizes: Sizes) -> Result<Runs, AllocError>
@@ -129,9 +132,9 @@ impl Runs {
         let count = sizes.len();
         let mut number = 0;
         while number < count {
-            let next = fitting_behind(words, at, &sizes, number);
+            let next = fitting_after(words, at, &sizes, number);
             if next > number {
-                at = behind(at, sizes.before(next) - sizes.before(number));
+                at = end_of(at, sizes.before(next) - sizes.before(number));
                 number = next;
             } else {
                 let size = sizes.size(number);
@@ -143,7 +146,7 @@ impl Runs {
                     offset: place.offset,
                 };
                 last = add_run(&mut more, last, run)?;
-                at = behind(place, size);
+                at = end_of(place, size);
                 number += 1;
             }
         }

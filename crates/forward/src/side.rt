@@ -138,7 +138,7 @@ impl Side {
     {
         let kept = self.number as usize;
         if kept < self.places.len() && index == kept + 1 {
-            self.entry_behind(index, self.last)
+            self.entry_after(index, self.last)
         } else {
             self.entry_near(index, self.last)
         }
@@ -163,7 +163,7 @@ impl Side {
     /// Returns the entry of a number, from 1, or `None`, by the offset of the previous entry: found by the words up
     /// to its own.
     #[inline(always)]
-    pub fn entry_behind(&self, index: usize, before: u32) -> Option<Forwarding>
+    pub fn entry_after(&self, index: usize, before: u32) -> Option<Forwarding>
         requires low { 0 < index }
         requires before { offset_of (slice_get self.now (index - 1)) ≡ Some before }
         ensures { result ≡ slice_get self.now index }

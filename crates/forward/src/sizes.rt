@@ -81,7 +81,7 @@ impl Sizes {
 
     /// Returns how many words the objects before one have, by its number, from 0; or all, by the number of them.
     #[inline(always)]
-    pub(crate) fn before(&self, number: usize) -> u32
+    pub fn before(&self, number: usize) -> u32
         requires { number ≤ length self.now }
         ensures { result ≡ words_before self.now number }
     {
@@ -102,13 +102,15 @@ impl Sizes {
         self.before(number + 1) - self.before(number)
     }
 
-    /// Returns a number up to which the objects from one on have together at most `room` words. No clause says that it
-    /// is the greatest, as it is. It is found by halving.
-    pub(crate) fn fitting(&self, from: usize, room: u32) -> usize
+    /// Returns the greatest number up to which the objects from one on have together at most `room` words. It is found
+    /// by halving.
+    pub fn fitting(&self, from: usize, room: u32) -> usize
         requires { from ≤ length self.now }
         ensures low { from ≤ result }
         ensures high { result ≤ length self.now }
         ensures fits { words_before self.now result ≤ words_before self.now from + room }
+        ensures greatest { result < length self.now
+            → words_before self.now from + room < words_before self.now (result + 1) }
     {
         let count = self.len();
         let most = u64::from(self.before(from)) + u64::from(room);

@@ -1,7 +1,8 @@
-//! Frames that the parts of a collection prepare before pages are protected.
+//! What the parts of a collection prepare before pages are protected: frames, and sizes of objects.
 
 use crate::same::same;
 use collecting::{Holding, Parts, Policy};
+use heap::Heap;
 use managed::ManagedHeap;
 use model::Refusal;
 use std::alloc::Global;
@@ -23,14 +24,31 @@ const POLICY: Policy = Policy {
     percent: 75,
 };
 
-/// A heap whose frames are counted.
+/// A heap whose frames are counted, and the pages whose objects' sizes are kept.
 trait Framed: Holding {
     fn used_frames(&self) -> usize;
+
+    fn sized_pages(&self) -> usize;
+}
+
+/// Returns of how many pages the sizes of the live objects are kept.
+fn sized_pages(heap: &Heap) -> usize {
+    let mut found = 0usize;
+    for index in 0..heap.memory().page_count() {
+        if heap.sizes_on(index + 1).is_some() {
+            found = found.saturating_add(1);
+        }
+    }
+    found
 }
 
 impl Framed for ManagedHeap {
     fn used_frames(&self) -> usize {
         self.heap().memory().used_frames()
+    }
+
+    fn sized_pages(&self) -> usize {
+        sized_pages(self.heap())
     }
 }
 
@@ -167,4 +185,30 @@ fn prepares_once(
 fn frames_are_prepared_once(rt: HostRuntime) -> Result<(), Fail> {
     prepares_once(&rt, rt.alloc(), new_heap(rt.alloc(), 64, 256)?, 20)?;
     prepares_once(&rt, rt.alloc(), new_heap(rt.alloc(), 46, 256)?, 6)
+}
+
+/// Returns of how many pages sizes are kept at most, before each part of a collection.
+fn most_sized(alloc: Global, heap: &mut impl Framed) -> Result<usize, Refusal> {
+    let mut parts = Parts::new(alloc);
+    let mut most = 0;
+    for _ in 0..10_000u32 {
+        most = most.max(heap.sized_pages());
+        if heap.collect_some(alloc, &mut parts, 75, 1)? {
+            return Ok(most);
+        }
+    }
+    Ok(0)
+}
+
+/// All 40 pages are found, and the sizes of their objects are kept until the pages are protected.
+fn keeps_sizes(rt: &impl Abort, alloc: Global, mut heap: impl Framed + Drop) -> Result<(), Fail> {
+    fill(alloc, &mut heap)?;
+    same(rt, heap.sized_pages(), 0);
+    same(rt, most_sized(alloc, &mut heap), Ok(40));
+    Ok(())
+}
+
+#[test]
+fn sizes_are_kept_of_found_pages(rt: HostRuntime) -> Result<(), Fail> {
+    keeps_sizes(&rt, rt.alloc(), new_heap(rt.alloc(), 64, 128)?)
 }

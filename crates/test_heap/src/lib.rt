@@ -8,6 +8,8 @@ mod beginnings;
 #[cfg(test)]
 mod heaps;
 #[cfg(test)]
+mod kept;
+#[cfg(test)]
 mod mutating;
 #[cfg(test)]
 mod protections;

@@ -41,7 +41,7 @@ fn says(
 }
 
 /// Page 1 is filled with one object, to which the global refers, and a mark closes it.
-fn close(heap: &mut impl Stepping) -> Result<(), Refusal> {
+pub(crate) fn close(heap: &mut impl Stepping) -> Result<(), Refusal> {
     let (target, layout, global, source) = (0, 0, 0, 0);
     for (actor, step) in [
         (FIRST, Step::Take(16)),
@@ -62,8 +62,8 @@ fn close(heap: &mut impl Stepping) -> Result<(), Refusal> {
     Ok(())
 }
 
-/// A new heap of two threads.
-fn new_heap(alloc: Global) -> Result<Heap, NewFault> {
+/// Returns a new heap of two threads.
+pub(crate) fn new_heap(alloc: Global) -> Result<Heap, NewFault> {
     Heap::new(alloc, shared_by_two(alloc)?)
 }
 

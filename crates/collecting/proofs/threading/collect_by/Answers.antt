@@ -3,8 +3,8 @@ use Rattle.collecting.proofs.NotRoom.{collecting_not}
 use Rattle.collecting.proofs.threading.collect_by.Goals as goal
 
 pub returns-clause-stands : goal.returns-clause-stands
-returns-clause-stands g c = unseen c.args.heap.now c.collect_whole_by.new.heap c.collect_whole_by.ensures.ends.0
+returns-clause-stands g c = unseen c.args.heap.now c.collect_whole.new.heap c.collect_whole.ensures.ends.0
 
 pub returns-clause-room : goal.returns-clause-room
-returns-clause-room g c = collecting_not c.args.percent c.args.heap.now c.collect_whole_by.result c.collect_whole_by.new.heap
-    c.collect_whole_by.ensures.ends.1
+returns-clause-room g c = collecting_not c.args.percent c.args.heap.now c.collect_whole.result c.collect_whole.new.heap
+    c.collect_whole.ensures.ends.1

@@ -9,13 +9,13 @@ pub index-requires : goal.index-requires
 index-requires c = omega (
   arith,
   c.requires,
-  addresses_many c.self.inside.base c.self.inside.more.items 0 c.self.inside.behind.items,
+  addresses_many c.self.inside.base c.self.inside.more.items 0 c.self.inside.distances.items,
   ap length c.self.view_is,
 )
 
 pub unwrap-requires : goal.unwrap-requires
 unwrap-requires c =
-    let got = address_got c.self.inside.base c.self.inside.more.items c.self.inside.behind.items c.args.self.now
+    let got = address_got c.self.inside.base c.self.inside.more.items c.self.inside.distances.items c.args.self.now
     c.args.index c.base_at-base.result c.index.result.now c.self.view_is c.self.invariant.0 c.requires
     c.base_at-base.ensures c.index.ensures in
     subst IsSome (sym (c.new.ensures.within
@@ -23,7 +23,7 @@ unwrap-requires c =
 
 pub returns : goal.returns
 returns c =
-    let got = address_got c.self.inside.base c.self.inside.more.items c.self.inside.behind.items c.args.self.now
+    let got = address_got c.self.inside.base c.self.inside.more.items c.self.inside.distances.items c.args.self.now
     c.args.index c.base_at-base.result c.index.result.now c.self.view_is c.self.invariant.0 c.requires
     c.base_at-base.ensures c.index.ensures in
     let is = c.new.ensures.within

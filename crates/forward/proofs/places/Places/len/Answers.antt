@@ -6,6 +6,6 @@ pub returns : goal.returns
 returns c = omega (
   arith,
   c.len.ensures,
-  addresses_many c.self.inside.base c.self.inside.more.items 0 c.self.inside.behind.items,
+  addresses_many c.self.inside.base c.self.inside.more.items 0 c.self.inside.distances.items,
   ap length c.self.view_is,
 )

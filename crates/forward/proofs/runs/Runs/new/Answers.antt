@@ -8,13 +8,13 @@ overflow_sub-before c = omega (
   arith,
   c.before-then-next-number.ensures,
   c.before-then-next-number-2.ensures,
-  before_grows c.args.sizes c.loop-number.number c.fitting_behind-next.result c.fitting_behind-next.ensures.low,
+  before_grows c.args.sizes c.loop-number.number c.fitting_after-next.result c.fitting_after-next.ensures.low,
 )
 
-pub behind-at-requires : goal.behind-at-requires
-behind-at-requires c = omega (
+pub end_of-at-requires : goal.end_of-at-requires
+end_of-at-requires c = omega (
   arith,
-  c.fitting_behind-next.ensures.fits c.if-next-number.true,
+  c.fitting_after-next.ensures.fits c.if-next-number.true,
   c.before-then-next-number.ensures,
   c.before-then-next-number-2.ensures,
   c.ranges.words.fits,
@@ -23,15 +23,15 @@ behind-at-requires c = omega (
 pub loop-number-preserved-then-next-number : goal.loop-number-preserved-then-next-number
 loop-number-preserved-then-next-number c =
     let i = c.loop-number.number in
-    let j = c.fitting_behind-next.result in
-    let up : j ≡ i + (j - i) = omega (arith, c.fitting_behind-next.ensures.low) in (
+    let j = c.fitting_after-next.result in
+    let up : j ≡ i + (j - i) = omega (arith, c.fitting_after-next.ensures.low) in (
       placed_up_to c.args.words c.args.end.now c.args.sizes i j (j - i) _ c.loop-number.last c.loop-number.more.items
-          c.loop-number.at c.behind-at.result c.loop-number.invariant.0 up c.fitting_behind-next.ensures.high
+          c.loop-number.at c.end_of-at.result c.loop-number.invariant.0 up c.fitting_after-next.ensures.high
           (omega (arith, c.before-then-next-number.ensures, c.before-then-next-number.type_inv))
-          (c.fitting_behind-next.ensures.fits c.if-next-number.true)
-          (c.behind-at.ensures ∙ ap₂ (λ x y. with_offset c.loop-number.at.0 (c.loop-number.at.1 + (x - y)))
+          (c.fitting_after-next.ensures.fits c.if-next-number.true)
+          (c.end_of-at.ensures ∙ ap₂ (λ x y. with_offset c.loop-number.at.0 (c.loop-number.at.1 + (x - y)))
           c.before-then-next-number.ensures c.before-then-next-number-2.ensures),
-      c.fitting_behind-next.ensures.high,
+      c.fitting_after-next.ensures.high,
     )
 
 pub loop-number-preserved : goal.loop-number-preserved
@@ -46,7 +46,7 @@ loop-number-preserved c = (
         offset = c.place.inside.offset;
       }) c.before-else-next-number.type_inv
       c.in_ok-last.last c.add_run.new.runs.items _ c.in_ok-last.ensures.last c.in_ok-last.ensures.runs
-      (c.behind-at-else-next-number.ensures ∙ ap (λ (q : ℕ × ℕ). with_offset q.0 (q.1 + c.size-size.result))
+      (c.end_of-at-else-next-number.ensures ∙ ap (λ (q : ℕ × ℕ). with_offset q.0 (q.1 + c.size-size.result))
       (sym c.place.view_is)),
   omega (arith, c.loop-number-test.true, c.len-count.ensures.value),
 )

@@ -3,8 +3,8 @@ use Rattle.std.specs.List.{slice_get}
 use Rattle.markbits.specs.Words.{IsFirstFrom, IsNextPlace}
 use Rattle.forward.specs.Noting.{offset_of}
 use Rattle.forward.proofs.Edited.{entry_is}
-use Rattle.forward.proofs.Noted.{none_there, none_behind, behind_offset}
-use Rattle.forward.proofs.side.Side.entry_behind.Goals as goal
+use Rattle.forward.proofs.Noted.{none_there, none_after, offset_after}
+use Rattle.forward.proofs.side.Side.entry_after.Goals as goal
 
 pub returns-then-index-len : goal.returns-then-index-len
 returns-then-index-len c =
@@ -15,7 +15,7 @@ returns-then-index-len c =
 pub returns-in_err-offset : goal.returns-in_err-offset
 returns-in_err-offset c =
     c.from_residual.ensures
-    ∙ none_behind c.self.inside.live c.self.inside.places c.self.inside.copied c.self.invariant.0 c.args.index
+    ∙ none_after c.self.inside.live c.self.inside.places c.self.inside.copied c.self.invariant.0 c.args.index
     c.args.before c.requires.low
     (ap (λ s. offset_of (slice_get s (c.args.index - 1))) c.self.view_is ∙ c.requires.before)
     (omega (arith, c.if-index-len.false, c.len.ensures))
@@ -27,7 +27,7 @@ returns c =
     let live = c.self.inside.live in
     let places = c.self.inside.places in
     let l : c.args.index < length places = omega (arith, c.if-index-len.false, c.len.ensures) in
-    let offset = behind_offset live places c.self.inside.copied c.self.invariant.0 c.args.index
+    let offset = offset_after live places c.self.inside.copied c.self.invariant.0 c.args.index
     c.args.before c.requires.low
     (ap (λ s. offset_of (slice_get s (c.args.index - 1))) c.self.view_is ∙ c.requires.before) c.in_ok-offset.offset l
     (subst (λ (r : List Bool). IsFirstFrom r (c.args.before + 1) c.in_ok-offset.offset) c.row.ensures

@@ -2,7 +2,7 @@ use Rattle.std.proofs.Common.{◌∙◌, ap, subst}
 use Rattle.choosing.specs.Choices.{IsChoice, all_words, words_on}
 use Rattle.model.specs.States.{HeapState}
 use Rattle.collecting.proofs.Collections.{behind_ends, behind_lacks}
-use Rattle.collecting.proofs.cycles.empty_behind.Goals as goal
+use Rattle.collecting.proofs.cycles.empty_after.Goals as goal
 
 pub returns-in-Ok-clause-ends : goal.returns-in-Ok-clause-ends
 returns-in-Ok-clause-ends c =

@@ -1,0 +1,58 @@
+//! Sizes of live objects that are kept with their page.
+
+use crate::protections::{close, new_heap};
+use crate::same::same_at;
+use cycle::{Mutating, Stepping};
+use heap::Heap;
+use std::alloc::AllocError;
+use std::process::Abort;
+use std::test::Fail;
+
+/// A heap that keeps sizes.
+trait Keeping: Mutating + Stepping {
+    /// Keeps the sizes of a page.
+    fn keep(&mut self, page: u32) -> Result<(), AllocError>;
+
+    /// Returns whether the sizes of each of the pages 1 to 3 are kept.
+    fn kept(&self) -> [bool; 3];
+}
+
+/// Returns whether the sizes of a page are kept.
+fn is_kept(heap: &Heap, page: u32) -> bool {
+    0 < page && page <= heap.memory().page_count() && heap.sizes_on(page).is_some()
+}
+
+impl Keeping for Heap {
+    fn keep(&mut self, page: u32) -> Result<(), AllocError> {
+        self.keep_sizes(page)
+    }
+
+    fn kept(&self) -> [bool; 3] {
+        [is_kept(self, 1), is_kept(self, 2), is_kept(self, 3)]
+    }
+}
+
+const NONE: [bool; 3] = [false; 3];
+
+const FIRST: [bool; 3] = [true, false, false];
+
+/// The sizes of page 1, which has one object, are kept until the object's datum is written. Pages 2 and 3 have no
+/// memory.
+fn keeps(rt: &impl Abort, mut heap: impl Keeping + Drop) -> Result<(), Fail> {
+    close(&mut heap)?;
+    same_at(rt, "first", heap.kept(), NONE);
+    for page in 0..4 {
+        heap.keep(page)?;
+    }
+    same_at(rt, "then", heap.kept(), FIRST);
+    heap.set_datum(0, 0, 0, 7)?;
+    same_at(rt, "after a write", heap.kept(), NONE);
+    heap.keep(1)?;
+    same_at(rt, "again", heap.kept(), FIRST);
+    Ok(())
+}
+
+#[test]
+fn sizes_are_kept_until_a_write(rt: HostRuntime) -> Result<(), Fail> {
+    keeps(&rt, new_heap(rt.alloc())?)
+}
