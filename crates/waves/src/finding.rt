@@ -116,8 +116,35 @@ fn find_at(heap: &Heap, page: u32, place: u32, found: &mut Batch) -> Result<u32,
     Ok(place + refs + 1)
 }
 
+/// Finds the grey object at a place of a page as `find_at` does, unless the object found before it ends after that
+/// place. Returns the place after the last object that was found.
+#[inline(always)]
+fn find_after(
+    heap: &Heap,
+    page: u32,
+    place: u32,
+    end: u32,
+    found: &mut Batch,
+) -> Result<u32, AllocError>
+    requires low { 0 < page }
+    requires high { page ≤ heap.now.store.count }
+    requires within { place < heap.now.store.words }
+    requires end { end ≤ heap.now.store.words }
+    requires free { is_free_todo heap.now (page * heap.now.store.words + place) ≡ true }
+    ensures within { IfOk result (λ n. n ≤ heap.now.store.words) }
+    ensures found { IfOk result (λ n. FindsMore heap.now (page * heap.now.store.words + end)
+        (page * heap.now.store.words + n) found.old found.new) }
+{
+    if place < end {
+        return Ok(end);
+    }
+    find_at(heap, page, place, found)
+}
+
 /// Finds grey objects of a page, by its bitmap: those that end within the page, each from the end of the one before
 /// it on. No worker has an object. Fails only if out of memory.
+///
+/// The next grey bit is looked up before the object is read, so that a processor reads several objects at once.
 fn find_on(heap: &Heap, page: u32, row: &Row, found: &mut Batch) -> Result<(), AllocError>
     requires row { row.now ≡ of_page heap.now.todo page }
     requires low { 0 < page }
@@ -128,11 +155,13 @@ fn find_on(heap: &Heap, page: u32, row: &Row, found: &mut Batch) -> Result<(), A
 {
     let words = heap.memory().page_words();
     let mut from = 0;
+    let mut end = 0;
     while let Some(place) = row.next_from(from) {
         if place >= words {
             return Ok(());
         }
-        from = find_at(heap, page, place, found)? as usize;
+        from = place as usize + 1;
+        end = find_after(heap, page, place, end, found)?;
     }
     Ok(())
 }
