@@ -34,6 +34,17 @@ impl Batch {
             sorted: Vec::new(alloc),
         }
     }
+
+    /// Makes the batch one of nothing. It keeps its memory.
+    pub fn clear(&mut self)
+        ensures objects { self.new.objects.items ≡ [] }
+        ensures words { self.new.words.items ≡ [] }
+        ensures notes { self.new.notes.items ≡ [] }
+    {
+        self.objects.clear();
+        self.words.clear();
+        self.notes.clear();
+    }
 }
 
 /// How pages are grouped, by the indexes of their records.

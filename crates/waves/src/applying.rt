@@ -32,10 +32,11 @@ fn write_parts(heap: &mut Heap, parts: &[Batch])
 pub(crate) fn apply_parts<R: Threads + Sync>(
     rt: &R,
     heap: &mut Heap,
+    first: usize,
     parts: &[Batch],
     groups: Groups,
 )
-    requires found { PartsFound heap.old (start_of heap.old 0) parts.now }
+    requires found { PartsFound heap.old (start_of heap.old first) parts.now }
     requires small { groups.shift < 32 }
     requires grey { length heap.old.todo ≤ groups.count * 2 ^ groups.shift }
     requires marked { length heap.old.mark ≤ groups.count * 2 ^ groups.shift }

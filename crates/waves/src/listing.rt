@@ -11,20 +11,43 @@ use std::alloc::{AllocError, Global};
 pub(crate) struct Extent {
     /// How many objects are grey.
     pub objects: u64,
-    /// The index after the last page with a grey object.
+    /// The index of the first page with a grey object.
+    pub first: usize,
+    /// The index after the last one.
     pub end: usize,
+    /// The index after the last page that has a bitmap.
+    pub used: usize,
+}
+
+/// Returns the extent together with the page of an index, which has a bitmap.
+fn with_page(extent: Extent, index: usize, objects: usize) -> Extent {
+    let next = index.saturating_add(1);
+    if objects == 0 {
+        return Extent {
+            used: next,
+            ..extent
+        };
+    }
+    Extent {
+        objects: extent.objects.saturating_add(objects as u64),
+        first: if extent.objects == 0 { index } else { extent.first },
+        end: next,
+        used: next,
+    }
 }
 
 /// Returns how many objects are grey, and on which pages.
 pub(crate) fn extent_of(heap: &Heap) -> Extent {
-    let mut extent = Extent { objects: 0, end: 0 };
+    let mut extent = Extent {
+        objects: 0,
+        first: 0,
+        end: 0,
+        used: 0,
+    };
     for index in 0..heap.memory().pages().len() {
         if let Some(row) = heap.todo().get(index) {
-            if row.count() != 0 {
-                extent = Extent {
-                    objects: extent.objects.saturating_add(row.count() as u64),
-                    end: index.saturating_add(1),
-                };
+            if row.len() != 0 {
+                extent = with_page(extent, index, row.count());
             }
         }
     }
