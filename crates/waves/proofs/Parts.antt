@@ -79,11 +79,6 @@ parts_found h first size (f ∷ fs) k =
       notes = (λ i. k.0.notes i ++ rest.notes i) ∙ sym (notes_both h f.objects.items (batch_objects fs));
     }
 
-pub all_found : (h : HeapState) (size : ℕ) (fs : List Batch)
-    → ((i : ℕ) (d : Batch) → i < length fs
-    → Finds h (start_of h (i * size)) (start_of h (i * size + size)) (get_or fs i d)) → PartsFound h (start_of h 0) fs
-all_found h size fs k = parts_found h 0 size fs (parts_find h 0 size fs each)
-  where
-    each : EachFinds h 0 size fs
-    each i d l = subst (λ n. Finds h (start_of h n) (start_of h (0 + (i * size + size))) (get_or fs i d)) (omega arith)
-        (subst (λ n. Finds h (start_of h (i * size)) (start_of h n) (get_or fs i d)) (omega arith) (k i d l))
+pub all_found : (h : HeapState) (first size : ℕ) (fs : List Batch) → EachFinds h first size fs
+    → PartsFound h (start_of h first) fs
+all_found h first size fs k = parts_found h first size fs (parts_find h first size fs k)
