@@ -10,8 +10,8 @@ use std::alloc::Global;
 pub struct Batch {
     /// The addresses of objects whose scans end.
     pub objects: Vec<Addr, Global>,
-    /// References to write, each with the number of its place.
-    pub words: Vec<(u64, Word), Global>,
+    /// References to write, each after the number of its frame and the offset there.
+    pub words: Vec<(u32, u32, Word), Global>,
     /// Notes for the bitmaps: the address of an object to mark, or with the bit set, that of an object that is grey no
     /// longer.
     pub notes: Vec<Word, Global>,
