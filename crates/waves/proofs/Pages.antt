@@ -115,3 +115,8 @@ found_after h page end place f g (Ok n) le k =
     more_then h (page * h.store.words + end) (page * h.store.words + place) (page * h.store.words + n) f f g
     (more_none h (page * h.store.words + end) (page * h.store.words + place) f (omega (arith, le))) k
 found_after h page end place f g (Err e) le k = tt
+
+-- the place of an address in its page
+pub place_is : (w page o a : ℕ) → a ≡ page * w + o → o < w → o ≡ a % w
+place_is w page o a e within =
+    sym (ap (λ n. n % w) e ∙ mul-add-mod_self_right page w o ∙ mod-eq_of_lt within)
