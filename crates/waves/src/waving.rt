@@ -10,7 +10,7 @@ use crate::parting::{count_parts, find_parts};
 use drains::{Portion, is_alone, mark_globals, scan_listed, scan_objects};
 use heap::{Batch, Groups, Heap};
 use refword::Addr;
-use std::alloc::Global;
+use std::alloc::{AllocError, Global};
 use std::thread::Threads;
 
 /// With fewer grey objects a wave isn't worth its threads.
@@ -22,6 +22,15 @@ const PORTION: u64 = 4_096;
 
 /// How many it scans at most.
 const LONGEST: u64 = 1 << 20;
+
+/// Returns batches of nothing. Fails only if out of memory.
+fn empty_parts(alloc: Global, count: u32) -> Result<Vec<Batch, Global>, AllocError> {
+    let mut parts = Vec::with_capacity(alloc, count as usize)?;
+    for _part in 0..count {
+        parts.push(Batch::new(alloc))?;
+    }
+    Ok(parts)
+}
 
 /// What a drain keeps from one wave to the next: memory, and how it goes on while few objects are grey.
 #[derive(Drop)]
@@ -37,16 +46,12 @@ struct Course {
 }
 
 impl Course {
-    /// Returns the course of a drain that begins on a number of threads. Without memory for their parts it has none.
+    /// Returns the course of a drain that begins on a number of threads. If there are fewer than two, or if out of
+    /// memory, it has no parts.
     fn new(alloc: Global, threads: u32) -> Course {
-        let mut parts = Vec::new(alloc);
-        for _part in 0..threads {
-            if parts.push(Batch::new(alloc)).is_err() {
-                break;
-            }
-        }
+        let parts = if threads < 2 { 0 } else { threads };
         Course {
-            parts,
+            parts: empty_parts(alloc, parts).unwrap_or(Vec::new(alloc)),
             grey: Vec::new(alloc),
             before: 0,
             portion: PORTION,
@@ -182,6 +187,9 @@ fn scan_at_once<R: Threads + Sync>(
     ensures done { ObjectsDone heap.old worker result heap.new }
     ensures few { result ≤ most }
 {
+    if course.parts.is_empty() {
+        return 0;
+    }
     let extent = extent_of(heap);
     if extent.objects >= FEW {
         return try_wave(rt, heap, worker, most, extent, course);
