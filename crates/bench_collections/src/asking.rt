@@ -4,6 +4,7 @@
 use anyhow::Result;
 use pauseless::{Config, Holding, Layout, Layouts, ManagedHeap, Policy, Refusal};
 use std::alloc::Global;
+use std::thread::Threads;
 
 /// The one thread of each heap.
 pub const ME: u32 = 0;
@@ -30,6 +31,9 @@ pub const PLACES: u32 = 512;
 const WORDS: u32 = 4_096;
 
 const FRAMES: u32 = 1_024;
+
+/// The frames of a heap that is marked on threads.
+pub const LARGE: u32 = 4_096;
 
 /// Pages of which at most this percentage of the words is live are emptied.
 const PERCENT: u32 = 75;
@@ -60,6 +64,25 @@ impl Marked for ManagedHeap {
     }
 }
 
+/// Does a mark that scans on a number of threads. Returns how many objects are live.
+pub fn mark_by<R: Threads + Sync>(
+    rt: &R,
+    heap: &mut ManagedHeap,
+    threads: u32,
+) -> Result<u64, Refusal> {
+    heap.mark_by(rt, 0, threads)
+}
+
+/// Does a complete collection whose mark scans on a number of threads. Returns how many objects are live.
+pub fn collect_by<R: Threads + Sync>(
+    rt: &R,
+    alloc: Global,
+    heap: &mut ManagedHeap,
+    threads: u32,
+) -> Result<u64, Refusal> {
+    Ok(pauseless::collect_by(rt, heap, alloc, PERCENT, threads)?.live)
+}
+
 /// Allocates an object of a layout, in a register.
 #[inline(always)]
 pub fn make(alloc: Global, heap: &mut impl Holding, target: u32, layout: u32) -> Result<()> {
@@ -83,6 +106,11 @@ pub fn settle(heap: &mut impl Holding) -> Result<(), Refusal> {
 
 /// Returns a heap for lists of objects of `words` words: a header, a reference, and data, at most 255 words.
 pub fn new_heap(alloc: Global, words: u32) -> Result<ManagedHeap> {
+    framed_heap(alloc, words, FRAMES)
+}
+
+/// Returns the same of a number of frames.
+pub fn framed_heap(alloc: Global, words: u32, frames: u32) -> Result<ManagedHeap> {
     let nums = words.saturating_sub(2).min(255) as u16;
     let layouts = Layouts::new(vec![in alloc;
         Layout { refs: 1, nums },
@@ -92,5 +120,5 @@ pub fn new_heap(alloc: Global, words: u32) -> Result<ManagedHeap> {
             nums: 0
         },
     ]?);
-    Ok(ManagedHeap::new(alloc, Config::new(WORDS, FRAMES, layouts))?)
+    Ok(ManagedHeap::new(alloc, Config::new(WORDS, frames, layouts))?)
 }

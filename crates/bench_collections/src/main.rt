@@ -8,6 +8,7 @@
 //! | `mark-SHAPE COUNT WORDS HEAPS TIMES` | makes a shape in each of HEAPS heaps, and marks it TIMES times |
 //! | `collect-SHAPE COUNT WORDS HEAPS TIMES` | the same with TIMES complete collections |
 //! | `waves-SHAPE COUNT WORDS THREADS TIMES` | makes a shape, and marks it TIMES times on THREADS threads, or with 0 on one as `mark-SHAPE` does; prints how often, and after `timed` nanoseconds |
+//! | `firsts-SHAPE COUNT WORDS THREADS TIMES` | makes a shape in each of TIMES heaps, and collects it on THREADS threads; prints the same |
 //! | `keep WORDS COUNT` | allocates COUNT objects, each of which becomes the head of a list |
 //! | `drop WORDS COUNT` | allocates COUNT garbage objects, and collects meanwhile |
 //!
@@ -16,9 +17,12 @@
 //! | `list` | a list of COUNT objects of WORDS words: a header, a reference, and data |
 //! | `half` | the same, with a garbage object after each |
 //! | `tree` | COUNT objects of a header and two references, as one tree whose levels are full but for the last |
+//! | `forest` | COUNT objects of a header and two references, as trees of 1,023 |
+//! | `sparse` | the graph, with a garbage object after each |
 //! | `graph` | COUNT objects of a header and two references: one to the next object of a cycle without order through all of them, one to any object; COUNT is a power of two |
 //!
-//! A tree and a graph have at most 262,144 objects, and objects at most 257 words. Two runs that differ in
+//! Objects have at most 257 words. A tree, a forest and a graph have at most 262,144 objects; with `waves` and `firsts`,
+//! whose heaps are larger, 1,048,576. Two runs that differ in
 //! the last number differ in one loop, so the difference of their times is that loop's.
 //!
 //! `bench/pauses.py` measures the parts of a collection in parts. Such a work prints how often each kind of
@@ -66,6 +70,8 @@ fn shape_of(name: &str) -> Result<Shape> {
         "list" => Ok(Shape::List),
         "half" => Ok(Shape::Half),
         "tree" => Ok(Shape::Tree),
+        "forest" => Ok(Shape::Forest),
+        "sparse" => Ok(Shape::Sparse),
         "graph" => Ok(Shape::Graph),
         _ => bail!("no such shape"),
     }
@@ -119,34 +125,40 @@ fn part<R: Clock + Print>(rt: &R, alloc: Global, asked: &Work, layout: Layout) -
     tell(rt, &laps, asked.timed)
 }
 
-/// Does marks of a shape on threads, and prints what they took.
-fn wave<R: Clock + Print + Threads + Sync>(
+/// Does marks or first collections of a shape on threads, and prints what they took.
+fn threaded<R: Clock + Print + Threads + Sync>(
     rt: &R,
     alloc: Global,
     asked: &Work,
-    shape: Shape,
+    turn: Turn,
+    shape: &str,
 ) -> Result<()> {
     let [count, words, threads, times, _] = asked.numbers;
     let task = Task {
-        shape,
+        shape: shape_of(shape)?,
         count,
         words,
-        turn: Turn::Mark,
+        turn,
         times,
     };
-    let laps = turning::waves(rt, alloc, task, threads)?;
+    let laps = match turn {
+        Turn::Mark => turning::waves(rt, alloc, task, threads)?,
+        Turn::Collect => turning::firsts(rt, alloc, task, threads)?,
+    };
     tell(rt, &laps, asked.timed)
 }
 
 /// Does a work by its name, and prints what it has come to.
 fn work<R: Clock + Print + Threads + Sync>(rt: &R, alloc: Global, asked: &Work) -> Result<()> {
     let [_, _, size, _, _] = asked.numbers;
+    match asked.name.as_str().split_once('-') {
+        Some(("waves", shape)) => return threaded(rt, alloc, asked, Turn::Mark, shape),
+        Some(("firsts", shape)) => return threaded(rt, alloc, asked, Turn::Collect, shape),
+        _ => {}
+    }
     match asked.name.as_str() {
         "parts" => part(rt, alloc, asked, narrow(size)?),
         "wide" => part(rt, alloc, asked, wide(size)?),
-        "waves-list" => wave(rt, alloc, asked, Shape::List),
-        "waves-tree" => wave(rt, alloc, asked, Shape::Tree),
-        "waves-graph" => wave(rt, alloc, asked, Shape::Graph),
         _ => give(rt, alloc, asked),
     }
 }

@@ -6,38 +6,62 @@ use anyhow::Result;
 use pauseless::{Holding, Refusal};
 use std::alloc::Global;
 
-/// Registers: the table of tables, one of these, and an object whose reference is stored.
+/// Registers: the table of tables of tables, one of these, one of those, and an object whose reference is stored.
 const TABLES: u32 = 2;
+
+const ROW: u32 = 5;
 
 const PART: u32 = 3;
 
 const HERE: u32 = 4;
 
-/// Makes a table of `count` new objects.
-fn fill_part(alloc: Global, heap: &mut impl Holding, count: u32) -> Result<()> {
+/// The objects of a table of tables.
+const ALL: u32 = PLACES * PLACES;
+
+/// The objects of a tree of a forest.
+const TREE: u32 = 1_023;
+
+/// Makes a table of `count` new objects, with `waste` garbage objects after each.
+fn fill_part(alloc: Global, heap: &mut impl Holding, count: u32, waste: u32) -> Result<()> {
     make(alloc, heap, PART, TABLE)?;
     for place in 0..count {
         make(alloc, heap, NODE, BRANCH)?;
         heap.store(ME, PART, place, NODE)?;
+        for _ in 0..waste {
+            make(alloc, heap, NODE, BRANCH)?;
+        }
     }
     Ok(())
 }
 
 /// Makes tables of `count` new objects.
-fn fill(alloc: Global, heap: &mut impl Holding, count: u32) -> Result<()> {
-    make(alloc, heap, TABLES, TABLE)?;
+fn fill_row(alloc: Global, heap: &mut impl Holding, count: u32, waste: u32) -> Result<()> {
+    make(alloc, heap, ROW, TABLE)?;
     let mut left = count;
     for part in 0..count.div_ceil(PLACES) {
-        fill_part(alloc, heap, left.min(PLACES))?;
-        heap.store(ME, TABLES, part, PART)?;
+        fill_part(alloc, heap, left.min(PLACES), waste)?;
+        heap.store(ME, ROW, part, PART)?;
         left = left.saturating_sub(PLACES);
+    }
+    Ok(())
+}
+
+/// Makes tables of tables of `count` new objects.
+fn fill(alloc: Global, heap: &mut impl Holding, count: u32, waste: u32) -> Result<()> {
+    make(alloc, heap, TABLES, TABLE)?;
+    let mut left = count;
+    for row in 0..count.div_ceil(ALL) {
+        fill_row(alloc, heap, left.min(ALL), waste)?;
+        heap.store(ME, TABLES, row, ROW)?;
+        left = left.saturating_sub(ALL);
     }
     Ok(())
 }
 
 /// Loads an object by its number into a register.
 fn find(heap: &mut impl Holding, target: u32, number: u32) -> Result<(), Refusal> {
-    heap.read(ME, PART, TABLES, number / PLACES)?;
+    heap.read(ME, ROW, TABLES, number / ALL)?;
+    heap.read(ME, PART, ROW, number / PLACES % PLACES)?;
     heap.read(ME, target, PART, number % PLACES)
 }
 
@@ -59,7 +83,7 @@ fn hang_all(heap: &mut impl Holding, count: u32) -> Result<(), Refusal> {
 
 /// Makes a tree of `count` objects.
 pub fn tree(alloc: Global, heap: &mut impl Holding, count: u32) -> Result<()> {
-    fill(alloc, heap, count)?;
+    fill(alloc, heap, count, 0)?;
     hang_all(heap, count)?;
     Ok(find(heap, HEAD, 0)?)
 }
@@ -92,9 +116,50 @@ fn link_all(heap: &mut impl Holding, count: u32) -> Result<(), Refusal> {
     Ok(())
 }
 
-/// Makes a graph of `count` objects.
-pub fn graph(alloc: Global, heap: &mut impl Holding, count: u32) -> Result<()> {
-    fill(alloc, heap, count)?;
+/// Gives each object of a forest except the roots its place in its tree.
+fn hang_trees(heap: &mut impl Holding, count: u32) -> Result<(), Refusal> {
+    for number in 0..count {
+        let place = number % TREE;
+        if place != 0 {
+            let before = place.saturating_sub(1);
+            link(
+                heap,
+                number.wrapping_sub(place).wrapping_add(before / 2),
+                before % 2,
+                number,
+            )?;
+        }
+    }
+    Ok(())
+}
+
+/// Makes a table of the roots of some trees of a forest, from the tree of a number on.
+fn list_roots(alloc: Global, heap: &mut impl Holding, first: u32, count: u32) -> Result<()> {
+    make(alloc, heap, HERE, TABLE)?;
+    for place in 0..count {
+        find(heap, NODE, first.wrapping_add(place).wrapping_mul(TREE))?;
+        heap.store(ME, HERE, place, NODE)?;
+    }
+    Ok(())
+}
+
+/// Makes a forest of `count` objects.
+pub fn forest(alloc: Global, heap: &mut impl Holding, count: u32) -> Result<()> {
+    fill(alloc, heap, count, 0)?;
+    hang_trees(heap, count)?;
+    make(alloc, heap, HEAD, TABLE)?;
+    let trees = count.div_ceil(TREE);
+    for table in 0..trees.div_ceil(PLACES) {
+        let first = table.wrapping_mul(PLACES);
+        list_roots(alloc, heap, first, trees.saturating_sub(first).min(PLACES))?;
+        heap.store(ME, HEAD, table, HERE)?;
+    }
+    Ok(())
+}
+
+/// Makes a graph of `count` objects, with `waste` garbage objects after each.
+pub fn graph(alloc: Global, heap: &mut impl Holding, count: u32, waste: u32) -> Result<()> {
+    fill(alloc, heap, count, waste)?;
     link_all(heap, count)?;
     Ok(find(heap, HEAD, 0)?)
 }

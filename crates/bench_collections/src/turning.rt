@@ -1,6 +1,6 @@
 //! Heaps in which a shape is made, and marked or collected some times; and heaps in which objects are allocated.
 
-use crate::asking::{Marked, new_heap, settle};
+use crate::asking::{LARGE, Marked, collect_by, framed_heap, mark_by, new_heap, settle};
 use crate::{lists, meshes};
 use anyhow::Result;
 use bench_support::{Lap, Laps, since};
@@ -15,7 +15,9 @@ pub enum Shape {
     List,
     Half,
     Tree,
+    Forest,
     Graph,
+    Sparse,
 }
 
 /// What is done with them.
@@ -46,7 +48,9 @@ fn build(alloc: Global, heap: &mut impl Holding, task: Task) -> Result<()> {
         Shape::List => lists::list(alloc, heap, task.count),
         Shape::Half => lists::half(alloc, heap, task.count),
         Shape::Tree => meshes::tree(alloc, heap, task.count),
-        Shape::Graph => meshes::graph(alloc, heap, task.count),
+        Shape::Forest => meshes::forest(alloc, heap, task.count),
+        Shape::Graph => meshes::graph(alloc, heap, task.count, 0),
+        Shape::Sparse => meshes::graph(alloc, heap, task.count, 1),
     }
 }
 
@@ -105,15 +109,6 @@ pub fn lose(alloc: Global, words: u32, count: u32) -> Result<u64> {
     lost(alloc, new_heap(alloc, words)?, count)
 }
 
-/// Does a mark that scans on a number of threads. Returns how many objects are live.
-fn mark_by<R: Threads + Sync>(
-    rt: &R,
-    heap: &mut ManagedHeap,
-    threads: u32,
-) -> Result<u64, Refusal> {
-    heap.mark_by(rt, 0, threads)
-}
-
 /// Marks a heap `times` times on threads, and adds the time of each mark. Returns how many objects are live.
 fn timed<R: Clock + Threads + Sync>(
     rt: &R,
@@ -153,5 +148,42 @@ pub fn waves<R: Clock + Threads + Sync>(
     task: Task,
     threads: u32,
 ) -> Result<Vec<Lap>> {
-    worked(rt, alloc, new_heap(alloc, task.words)?, task, threads)
+    worked(
+        rt,
+        alloc,
+        framed_heap(alloc, task.words, LARGE)?,
+        task,
+        threads,
+    )
+}
+
+/// Makes a shape in a heap, and collects it once on threads. Adds the time.
+fn first<R: Clock + Threads + Sync>(
+    rt: &R,
+    alloc: Global,
+    mut heap: impl Marked + Drop,
+    task: Task,
+    threads: u32,
+    laps: &mut Laps,
+) -> Result<()> {
+    build(alloc, &mut heap, task)?;
+    settle(&mut heap)?;
+    let start = Instant::now(rt)?;
+    collect_by(rt, alloc, heap.managed(), threads)?;
+    Ok(laps.add("collect", since(rt, start)?)?)
+}
+
+/// Makes a shape in as many heaps as there are times, and collects each once on threads. Returns the times.
+pub fn firsts<R: Clock + Threads + Sync>(
+    rt: &R,
+    alloc: Global,
+    task: Task,
+    threads: u32,
+) -> Result<Vec<Lap>> {
+    let mut laps = Laps::new(alloc);
+    for _ in 0..task.times {
+        let heap = framed_heap(alloc, task.words, LARGE)?;
+        first(rt, alloc, heap, task, threads, &mut laps)?;
+    }
+    Ok(laps.all()?)
 }

@@ -5,3 +5,4 @@ pub mod Bits
 pub mod Waiting
 pub mod Blanks
 pub mod Written
+pub mod Scans

@@ -29,7 +29,7 @@ fn is_scan_of(address: u64, scan: Option<Scan>) -> bool
 /// Returns whether some worker has the object at an address.
 #[inline(always)]
 #[tactic(auto, unfolding(model::specs::Scans::is_taken))]
-fn is_taken(heap: &Heap, address: u64) -> bool
+pub(crate) fn is_taken(heap: &Heap, address: u64) -> bool
     ensures { result ≡ is_taken heap.now address }
 {
     heap.workers().iter().any(|scan| is_scan_of(address, *scan))

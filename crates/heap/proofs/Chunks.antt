@@ -10,11 +10,14 @@ use Rattle.std.proofs.lemmas.Bool.{cases_lt, cases_eq, true≢false}
 use Rattle.std.proofs.lemmas.Bool.Decides.{nat_tests}
 use Rattle.std.proofs.lemmas.List.{drop_more, drop_all, get_or-take, get_or-drop, length-take-le, length-drop}
 use Rattle.std.proofs.lemmas.Option.{slice_get_within, get_or_from_slice_get}
-use Rattle.model.specs.States.{Reference, change_at, change_found}
+use Rattle.refword.specs.Words.{bits_of}
+use Rattle.model.specs.States.{Reference, HeapState, change_at, change_found}
 use Rattle.model.specs.Bits.{put_bit, bit_at}
-use Rattle.model.specs.Holding.{AreRowsOf}
-use Rattle.model.specs.Stores.{StoreState}
-use Rattle.heap.specs.Batches.{AreEmpty, bucket_of, in_bucket, edit_one, edited, todo_edit, mark_edit}
+use Rattle.model.specs.Holding.{AreRowsOf, IsHeap}
+use Rattle.model.specs.Stores.{StoreState, page_at}
+use Rattle.heap.proofs.Keeping.{store_keeps}
+use Rattle.page.specs.Changing.{AreEmpty}
+use Rattle.heap.specs.Batches.{bucket_of, in_bucket, edit_one, edited, todo_edit, mark_edit, write_edit, with_frames}
 
 -- ---- one element
 
@@ -143,17 +146,17 @@ in_chunk start offset i arg after es x y d at l old e new =
     sym new ∙ ap (λ us. get_or us offset d) e ∙ get_edited start arg es offset d l
     ∙ (λ j. after_all (at j) es (old j))
 
-empty_at : (rows : List (List Bool)) (k : ℕ) (d : List Bool) → AreEmpty rows → k < length rows → get_or rows k d ≡ []
+empty_at : {Y : Type 0} (rows : List (List Y)) (k : ℕ) (d : List Y) → AreEmpty rows → k < length rows → get_or rows k d ≡ []
 empty_at [] k d e l = absurd (omega (arith, l))
 empty_at (r ∷ rs) zero d e l = e.0
 empty_at (r ∷ rs) (suc k) d e l = empty_at rs k d e.1 (omega (arith, l))
 
--- edits that leave empty bitmaps empty
-abbrev pub KeepEmpty : List (ℕ × (List Bool → List Bool)) → Type 0
+-- edits that leave empty lists empty
+abbrev pub KeepEmpty : {Y : Type 0} → List (ℕ × (List Y → List Y)) → Type 0
 KeepEmpty [] = Unit {0}
 KeepEmpty (e ∷ es) = (e.1 [] ≡ []) × KeepEmpty es
 
-empty_after : (i : ℕ) (es : List (ℕ × (List Bool → List Bool))) → KeepEmpty es → after_all i es [] ≡ []
+empty_after : {Y : Type 0} (i : ℕ) (es : List (ℕ × (List Y → List Y))) → KeepEmpty es → after_all i es [] ≡ []
 empty_after i [] k = refl
 empty_after i (e ∷ es) k = ap (after_all i es) (by_number (nat_eq e.0 i)) ∙ empty_after i es k.1
   where
@@ -161,19 +164,19 @@ empty_after i (e ∷ es) k = ap (after_all i es) (by_number (nat_eq e.0 i)) ∙ 
     by_number true = k.0
     by_number false = refl
 
--- the first bitmaps were edited, and the others are empty
-pub rows_edited : (old new : List (List Bool)) (end : ℕ) (es : List (ℕ × (List Bool → List Bool)))
+-- the first lists were edited, and the others are empty
+pub rows_edited : {Y : Type 0} (old new : List (List Y)) (end : ℕ) (es : List (ℕ × (List Y → List Y)))
     → length new ≡ length old → end ≤ length old → drop end new ≡ drop end old → AreEmpty (drop end old) → KeepEmpty es
-    → ((i : ℕ) (d : List Bool) → i < length (take end old)
+    → ((i : ℕ) (d : List Y) → i < length (take end old)
     → get_or (take end new) i d ≡ after_all i es (get_or (take end old) i d))
     → new ≡ edited 0 old es
-rows_edited old new end es many within rest empty keep low =
+rows_edited {Y} old new end es many within rest empty keep low =
     get_same new (edited 0 old es) (many ∙ sym (edited_length 0 old es)) each
   where
     back : (i : ℕ) → 0 + i ≡ i
     back i = omega arith
 
-    by_place : (i : ℕ) (d : List Bool) → i < length old → (i < end) ⊎ (end ≤ i)
+    by_place : (i : ℕ) (d : List Y) → i < length old → (i < end) ⊎ (end ≤ i)
         → get_or new i d ≡ after_all i es (get_or old i d)
     by_place i d l (inl a) =
         sym (get_or-take end new i d a)
@@ -188,7 +191,7 @@ rows_edited old new end es many within rest empty keep low =
         ∙ get_or-drop end old k d ∙ ap (λ n. get_or old n d) at
         ∙ none ∙ sym (empty_after i es keep) ∙ sym (ap (after_all i es) none)
 
-    each : (i : ℕ) (d : List Bool) → i < length new → get_or new i d ≡ get_or (edited 0 old es) i d
+    each : (i : ℕ) (d : List Y) → i < length new → get_or new i d ≡ get_or (edited 0 old es) i d
     each i d l =
         let m : i < length old = omega (arith, l, many) in
         by_place i d m (cases_lt i end)
@@ -210,42 +213,28 @@ mark_keep w (None ∷ ns) = (refl, mark_keep w ns)
 mark_keep w (Some (a, true) ∷ ns) = (refl, mark_keep w ns)
 mark_keep w (Some (a, false) ∷ ns) = (refl, mark_keep w ns)
 
--- ---- the last bitmap that isn't empty
-
-pub empty_more : (rows : List (List Bool)) (n : ℕ) → AreEmpty (drop n rows) → 0 < n → slice_get rows (n - 1) ≡ Some []
-    → AreEmpty (drop (n - 1) rows)
-empty_more rows n e low at =
-    subst AreEmpty (sym (drop_more rows (n - 1) [] (slice_get_within rows (n - 1) [] at)
-    ∙ (λ j. get_or_from_slice_get rows (n - 1) [] [] at j ∷ drop (next n low j) rows))) (refl, e)
-  where
-    next : (n : ℕ) → 0 < n → n - 1 + 1 ≡ n
-    next n low = omega (arith, low)
-
-pub empty_none : (rows : List (List Bool)) (n : ℕ) → n ≡ length rows → AreEmpty (drop n rows)
-empty_none rows n e = subst AreEmpty (sym (drop_all n rows (omega (arith, e)))) tt
-
 -- ---- lengths
 
--- edits that leave each bitmap as long as it is
-abbrev pub KeepLength : List (ℕ × (List Bool → List Bool)) → Type 0
+-- edits that leave each list as long as it is
+abbrev pub KeepLength : {Y : Type 0} → List (ℕ × (List Y → List Y)) → Type 0
 KeepLength [] = Unit {0}
-KeepLength (e ∷ es) = ((row : List Bool) → length (e.1 row) ≡ length row) × KeepLength es
+KeepLength {Y} (e ∷ es) = ((row : List Y) → length (e.1 row) ≡ length row) × KeepLength es
 
-altered_lengths : (rows : List (List Bool)) (i : ℕ) (f : List Bool → List Bool)
-    → ((row : List Bool) → length (f row) ≡ length row) → map length (alter rows i f) ≡ map length rows
+altered_lengths : {Y : Type 0} (rows : List (List Y)) (i : ℕ) (f : List Y → List Y)
+    → ((row : List Y) → length (f row) ≡ length row) → map length (alter rows i f) ≡ map length rows
 altered_lengths [] i f k = refl
 altered_lengths (r ∷ rs) zero f k = ap (λ n. n ∷ map length rs) (k r)
 altered_lengths (r ∷ rs) (suc i) f k = ap (λ ns. length r ∷ ns) (altered_lengths rs i f k)
 
-edit_lengths : (start : ℕ) (rows : List (List Bool)) (e : ℕ × (List Bool → List Bool))
-    → ((row : List Bool) → length (e.1 row) ≡ length row) → map length (edit_one start rows e) ≡ map length rows
+edit_lengths : {Y : Type 0} (start : ℕ) (rows : List (List Y)) (e : ℕ × (List Y → List Y))
+    → ((row : List Y) → length (e.1 row) ≡ length row) → map length (edit_one start rows e) ≡ map length rows
 edit_lengths start rows e k = by_place (nat_le start e.0)
   where
     by_place : (b : Bool) → map length (if b then change_at rows (e.0 - start) e.1 else rows) ≡ map length rows
     by_place true = ap (map length) (changed_is rows (e.0 - start) e.1) ∙ altered_lengths rows (e.0 - start) e.1 k
     by_place false = refl
 
-pub edited_lengths : (start : ℕ) (rows : List (List Bool)) (es : List (ℕ × (List Bool → List Bool))) → KeepLength es
+pub edited_lengths : {Y : Type 0} (start : ℕ) (rows : List (List Y)) (es : List (ℕ × (List Y → List Y))) → KeepLength es
     → map length (edited start rows es) ≡ map length rows
 edited_lengths start rows [] k = refl
 edited_lengths start rows (e ∷ es) k =
@@ -330,3 +319,22 @@ group_within start end count size low enough = by_place (cases_lt (start / size)
         let more : count * size ≤ start / size * size = mul-le-mul_right size l in
         let back = div-add-mod' start size in
         absurd (omega (arith, low, enough, more, back))
+
+-- ---- writes
+
+pub write_keep : (ws : List (ℕ × ℕ × Reference)) → KeepEmpty (map write_edit ws)
+write_keep [] = tt
+write_keep (w ∷ ws) = (refl, write_keep ws)
+
+pub write_lengths : (ws : List (ℕ × ℕ × Reference)) → KeepLength (map write_edit ws)
+write_lengths [] = tt
+write_lengths (w ∷ ws) = ((λ row. length-set row w.1 (bits_of w.2)), write_lengths ws)
+
+-- other words in frames
+pub writes_keep : (h : HeapState) (vs : List (ℕ × ℕ × Reference)) → IsHeap h
+    → IsHeap (record h { store = with_frames h.store vs })
+unfolding page_at
+writes_keep h vs i =
+    store_keeps h (with_frames h.store vs) i
+    (record { words = refl; count = refl; frames = edited_length 0 h.store.frames (map write_edit vs) }) refl
+    (λ b lies. record { page = lies.page; order = lies.order; end = lies.end }) (λ none. none)

@@ -9,7 +9,7 @@ use Rattle.refword.specs.Words.{address_in, mark_in}
 use Rattle.model.specs.Bits.{put_bit, bit_at}
 use Rattle.model.specs.States.{Reference, change_at, change_found}
 use Rattle.page.proofs.Copied.{same_set}
-use Rattle.heap.specs.Batches.{AllSorted, IsSorted, in_bucket, items_in, batch_notes, edit_one, edited, todo_edit, mark_edit}
+use Rattle.heap.specs.Batches.{AllSorted, IsSorted, in_bucket, items_in, batch_notes, batch_words, edit_one, edited, todo_edit, mark_edit}
 use Rattle.heap.specs.declared.batch.Batch.{Batch}
 
 -- ---- one note
@@ -140,3 +140,20 @@ batches_end start all xs f p bs i e le =
 pub list_sorted : (w size count c i : ℕ) (bs : List Batch) (b : Batch) → AllSorted w size count bs → IsAt bs i b
     → c < count → items_in (slice_get b.sorted.items c) ≡ filter (in_bucket w size c) b.notes.items
 list_sorted w size count c i bs b s at l = subst (IsSorted w size count) (sym at.1) (s i b at.0) c l
+
+-- ---- many writes
+
+pub writes_next : {X : Type 0} (start : ℕ) (all xs ys : List X) (f : ℕ × ℕ × Reference → ℕ × (X → X)) (bs : List Batch)
+    (i : ℕ) (b : Batch)
+    → edited start xs (map f (batch_words (drop i bs))) ≡ all → IsAt bs i b → ys ≡ edited start xs (map f b.words.items)
+    → edited start ys (map f (batch_words (drop (i + 1) bs))) ≡ all
+writes_next start all xs ys f bs i b e at d =
+    ap (λ us. edited start us (map f (batch_words (drop (i + 1) bs)))) d
+    ∙ edited_both start xs (map f b.words.items) (map f (batch_words (drop (i + 1) bs)))
+    ∙ ap (edited start xs) (map_both f b.words.items (batch_words (drop (i + 1) bs)))
+    ∙ ap (λ cs. edited start xs (map f (batch_words cs))) (sym (here bs i b at)) ∙ e
+
+pub writes_end : {X : Type 0} (start : ℕ) (all xs : List X) (f : ℕ × ℕ × Reference → ℕ × (X → X)) (bs : List Batch)
+    (i : ℕ) → edited start xs (map f (batch_words (drop i bs))) ≡ all → length bs ≤ i → xs ≡ all
+writes_end start all xs f bs i e le =
+    ap (λ cs. edited start xs (map f (batch_words cs))) (sym (drop_all i bs le)) ∙ e

@@ -1,6 +1,6 @@
 -- Batches: references that are written, and notes for the bitmaps, many at once.
 use Rattle.std.specs.Prelude.{◌≡◌, ℕ, ◌-◌, ◌/◌, ◌%◌, Bool, true, false, List, [], ◌∷◌, ◌++◌, Option, Some, None, map}
-use Rattle.std.specs.Prelude.{if◌then◌else◌, nat_le, ◌==◌, ◌<◌, length, get_or, filter, slice_get}
+use Rattle.std.specs.Prelude.{if◌then◌else◌, nat_le, ◌==◌, ◌<◌, length, get_or, filter, slice_get, slice_set}
 use Rattle.refword.specs.Words.{bits_of}
 use Rattle.refword.specs.declared.word.Word.{Word}
 use Rattle.std.specs.Global.{Vec}
@@ -45,7 +45,7 @@ abbrev pub batch_objects : List Batch → List ℕ
 batch_objects [] = []
 batch_objects (b ∷ bs) = b.objects.items ++ batch_objects bs
 
-abbrev pub batch_words : List Batch → List (ℕ × Reference)
+abbrev pub batch_words : List Batch → List (ℕ × ℕ × Reference)
 batch_words [] = []
 batch_words (b ∷ bs) = b.words.items ++ batch_words bs
 
@@ -83,10 +83,17 @@ with_notes h ns = record h {
   todo = edited 0 h.todo (map (todo_edit h.mark h.store.words) ns);
 }
 
--- all these bitmaps are empty
-abbrev pub AreEmpty : List (List Bool) → Type 0
-AreEmpty [] = Unit {0}
-AreEmpty (r ∷ rs) = (r ≡ []) × AreEmpty rs
+-- what the write of a reference does to the frames, by the number of its frame and the offset there
+abbrev pub write_edit : ℕ × ℕ × Reference → ℕ × (List ℕ → List ℕ)
+write_edit v = (v.0, λ ws. slice_set ws v.1 (bits_of v.2))
+
+-- the store after references are written to their places in frames
+abbrev pub with_frames : StoreState → List (ℕ × ℕ × Reference) → StoreState
+with_frames s vs = record s { frames = edited 0 s.frames (map write_edit vs) }
+
+-- the heap after that
+unfoldable pub with_writes : HeapState → List (ℕ × ℕ × Reference) → HeapState
+with_writes h vs = record h { store = with_frames h.store vs }
 
 -- sorted notes
 

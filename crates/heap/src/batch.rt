@@ -10,8 +10,8 @@ use std::alloc::Global;
 pub struct Batch {
     /// The addresses of objects whose scans end.
     pub objects: Vec<Addr, Global>,
-    /// References to write, each with the number of its place.
-    pub words: Vec<(u64, Word), Global>,
+    /// References to write, each after the number of its frame and the offset there.
+    pub words: Vec<(u32, u32, Word), Global>,
     /// Notes for the bitmaps: the address of an object to mark, or with the bit set, that of an object that is grey no
     /// longer.
     pub notes: Vec<Word, Global>,
@@ -33,6 +33,17 @@ impl Batch {
             notes: Vec::new(alloc),
             sorted: Vec::new(alloc),
         }
+    }
+
+    /// Makes the batch one of nothing. It keeps its memory.
+    pub fn clear(&mut self)
+        ensures objects { self.new.objects.items ≡ [] }
+        ensures words { self.new.words.items ≡ [] }
+        ensures notes { self.new.notes.items ≡ [] }
+    {
+        self.objects.clear();
+        self.words.clear();
+        self.notes.clear();
     }
 }
 

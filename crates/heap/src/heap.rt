@@ -16,6 +16,7 @@ mod registers;
 mod relocating;
 mod runs;
 mod writing;
+mod writing_by;
 
 ghost use Rattle.std.specs.Prelude.{◌≡◌, ◌<◌, ◌≤◌, ◌*◌, ◌+◌, position, length, IfSome};
 ghost use Rattle.model.specs.Cycles.{is_lent};

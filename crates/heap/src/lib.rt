@@ -17,5 +17,5 @@ pub use heap::opening::PageMemory;
 pub use heap::references::read_reference;
 pub use markbits::{IndexedRows, Row, Rows};
 pub use model::{Config, ConfigFault, Refusal, Tally};
-pub use sorting::sorted_notes;
+pub use sorting::sort_notes;
 pub use thread_records::Thread;

@@ -16,3 +16,4 @@ pub mod RowSizes
 pub mod Runs
 pub mod Usable
 pub mod Untouched
+pub mod Emptied

@@ -10,3 +10,4 @@ pub mod Usable
 pub mod Sizes
 pub mod Whole
 pub mod Kept
+pub mod Changing

@@ -1,6 +1,7 @@
 //! Pages and their frames.
 mod behind;
 mod buffers;
+mod changing;
 mod ending;
 mod kept;
 mod lending;

@@ -1,14 +1,17 @@
 -- What is added to what was found.
-use Rattle.std.proofs.Common.{◌≡◌, ℕ, suc, ◌+◌, ◌-◌, ◌≤◌, true, List, [], ◌∷◌, ◌++◌}
-use Rattle.std.proofs.Common.{Some, refl, sym, ◌∙◌, ap, arith, subst}
+use Rattle.std.proofs.Common.{◌≡◌, ◌≢◌, ℕ, zero, suc, ◌+◌, ◌-◌, ◌%◌, ◌≤◌, ◌<◌, Option, true, List, [], ◌∷◌, ◌++◌}
+use Rattle.std.proofs.Common.{map, Some, None, refl, sym, ◌∙◌, ap, arith, subst}
 use Rattle.model.specs.Bits.{bit_at}
-use Rattle.model.specs.References.{field_address}
+use Rattle.model.specs.Marks.{marked_word}
+use Rattle.model.specs.References.{field_address, read_reference}
 use Rattle.model.specs.Scans.{is_free_todo}
-use Rattle.model.specs.States.{HeapState}
-use Rattle.model.specs.Stores.{word_at}
+use Rattle.model.specs.States.{Reference, HeapState}
+use Rattle.model.specs.Stores.{StoreState, spot_of, word_at}
 use Rattle.drains.specs.Drains.{refs_at}
+use Rattle.heap.specs.AtOnce.{IsOnFrame}
 use Rattle.heap.specs.declared.batch.Batch.{Batch}
-use Rattle.waves.specs.Finds.{AreMarked, Rises, FindsMore, AddsField, AddsFields}
+use Rattle.page.proofs.Usable.{usable_spot}
+use Rattle.waves.specs.Finds.{AreMarked, AreAt, Rises, FindsMore, AddsNotes, AddsWord, AddsFields, spot_for, spot_in}
 use Rattle.waves.specs.Waves.{words_for, notes_for, words_from, notes_from, words_of, notes_of, all_words, all_notes}
 
 -- ---- lists
@@ -21,12 +24,69 @@ pub append_three : {X : Type 0} (xs ys zs : List X) → (xs ++ ys) ++ zs ≡ xs 
 append_three [] ys zs = refl
 append_three (x ∷ xs) ys zs = ap (λ us. x ∷ us) (append_three xs ys zs)
 
+-- ---- references at their places
+
+map_both : {X Y : Type 0} (f : X → Y) (xs ys : List X) → map f (xs ++ ys) ≡ map f xs ++ map f ys
+map_both f [] ys = refl
+map_both f (x ∷ xs) ys = ap (λ us. f x ∷ us) (map_both f xs ys)
+
+pub at_both : (s : StoreState) (xs ys : List (ℕ × ℕ × Reference)) (vs us : List (ℕ × Reference)) → AreAt s xs vs
+    → AreAt s ys us → AreAt s (xs ++ ys) (vs ++ us)
+at_both s xs ys vs us k l =
+    map_both (spot_for s) vs us ∙ (λ i. k i ++ l i) ∙ sym (map_both spot_in xs ys)
+
+pub word_none : (h : HeapState) (place : ℕ) (f : Batch) → None ≡ word_at h.store place → AddsWord h place f f
+word_none h place f e vs k = subst (AreAt h.store f.words.items)
+    (sym (ap (λ o. vs ++ words_for h place o) (sym e) ∙ append_none vs)) k
+
+pub word_zero : (h : HeapState) (place bits : ℕ) (f : Batch) → Some bits ≡ word_at h.store place → bits ≡ 0
+    → AddsWord h place f f
+word_zero h place bits f e z vs k = subst (AreAt h.store f.words.items)
+    (sym (ap (λ o. vs ++ words_for h place o) (sym e ∙ ap Some z) ∙ append_none vs)) k
+
+pub word_more : (h : HeapState) (place bits frame offset : ℕ) (word : Reference) (f g : Batch)
+    → Some bits ≡ word_at h.store place → bits ≢ 0 → word ≡ marked_word h (read_reference bits)
+    → spot_of h.store place ≡ Some (frame, offset) → g.words.items ≡ f.words.items ++ ((frame, offset, word) ∷ [])
+    → AddsWord h place f g
+word_more h place bits frame offset word f g e some is at d vs k =
+    subst (λ xs. AreAt h.store xs (vs ++ words_for h place (word_at h.store place))) (sym d)
+    (at_both h.store f.words.items ((frame, offset, word) ∷ []) vs (words_for h place (word_at h.store place)) k
+    (ap (λ o. map (spot_for h.store) (words_for h place o)) (sym e) ∙ by_bits bits some is))
+  where
+    by_bits : (n : ℕ) → n ≢ 0 → word ≡ marked_word h (read_reference n)
+        → map (spot_for h.store) (words_for h place (Some n)) ≡ (Some (frame, offset), word) ∷ []
+    by_bits zero l m = absurd (l refl)
+    by_bits (suc n) l m = λ i. (at i, sym m i) ∷ []
+
+pub field_word : (h : HeapState) (a i n bits frame offset : ℕ) (r : Option ℕ) (word : Reference) (f g : Batch)
+    → IsOnFrame h a frame → offset ≡ a % h.store.words → offset + 1 + i < h.store.words → n ≡ i
+    → r ≡ word_at h.store (a + (1 + n)) → r ≡ Some bits → bits ≢ 0 → word ≡ marked_word h (read_reference bits)
+    → g.words.items ≡ f.words.items ++ ((frame, offset + 1 + i, word) ∷ []) → AddsWord h (field_address a i) f g
+field_word h a i n bits frame offset r word f g on at within same e is some w d =
+    word_more h (field_address a i) bits frame (offset + 1 + i) word f g
+    (sym is ∙ e ∙ ap (word_at h.store) place) some w spot d
+  where
+    place : a + (1 + n) ≡ field_address a i
+    place = omega (arith, same)
+
+    ahead : a + (1 + i) ≡ field_address a i
+    ahead = omega arith
+
+    offsets : a % h.store.words + (1 + i) ≡ offset + 1 + i
+    offsets = omega (arith, at)
+
+    spot : spot_of h.store (field_address a i) ≡ Some (frame, offset + 1 + i)
+    spot = ap (spot_of h.store) (sym ahead)
+        ∙ usable_spot h.store a (1 + i) frame on (omega (arith, at, within))
+        ∙ ap (λ o. Some (frame, o)) offsets
+
 -- ---- fields
 
 pub fields_none : (h : HeapState) (a i k : ℕ) (f : Batch) → k ≡ 0 → AddsFields h a i k f f
 fields_none h a i k f e = record {
   objects = refl;
-  words = sym (ap (λ n. f.words.items ++ words_from h a i n) e ∙ append_none f.words.items);
+  words = λ vs k. subst (AreAt h.store f.words.items)
+      (sym (ap (λ n. vs ++ words_from h a i n) e ∙ append_none vs)) k;
   notes = sym (ap (λ n. f.notes.items ++ notes_from h a i n) e ∙ append_none f.notes.items);
 }
 
@@ -38,12 +98,12 @@ pub fields_first : (h : HeapState) (a refs : ℕ) (f : Batch) → FieldsLeft h a
 fields_first h a refs f j k = subst (λ n. AddsFields h a 0 n f j) (omega arith) k
 
 pub fields_next : (h : HeapState) (a refs i k m : ℕ) (f g j : Batch) → FieldsLeft h a refs i k f g → k ≡ suc m
-    → AddsField h (field_address a i) g j → FieldsLeft h a refs (i + 1) m f j
-fields_next h a refs i k m f g j left e one l rest = left l (subst (λ n. AddsFields h a i n g l) (sym e) (record {
+    → AddsNotes h (field_address a i) g j → AddsWord h (field_address a i) g j → FieldsLeft h a refs (i + 1) m f j
+fields_next h a refs i k m f g j left e one word l rest = left l (subst (λ n. AddsFields h a i n g l) (sym e) (record {
   objects = rest.objects ∙ one.objects;
-  words = rest.words ∙ ap (λ us. us ++ words_from h a (i + 1) m) one.words
-      ∙ append_three g.words.items (words_for h (field_address a i) (word_at h.store (field_address a i)))
-      (words_from h a (i + 1) m);
+  words = λ vs k. let here = words_for h (field_address a i) (word_at h.store (field_address a i)) in
+      subst (AreAt h.store l.words.items) (append_three vs here (words_from h a (i + 1) m))
+      (rest.words (vs ++ here) (word vs k));
   notes = rest.notes ∙ ap (λ us. us ++ notes_from h a (i + 1) m) one.notes
       ∙ append_three g.notes.items (notes_for h (word_at h.store (field_address a i))) (notes_from h a (i + 1) m);
 }))
@@ -86,9 +146,8 @@ object_found h a refs f g j free bit e add objects words notes start k = record 
   rises = subst (Rises h start (a + refs + 1)) (sym listed)
       (rises_both h start a (a + refs + 1) f.objects.items (a ∷ []) k.rises (omega arith, free, omega (arith, e)));
   marked = subst (AreMarked h) (sym listed) (marked_both h f.objects.items (a ∷ []) k.marked (bit, tt));
-  words = words ∙ add.words ∙ (λ i. k.words i ++ words_from h a 0 (e i))
-      ∙ ap (λ us. all_words h f.objects.items ++ us) (sym (append_none (words_from h a 0 (refs_at h a))))
-      ∙ sym (words_both h f.objects.items (a ∷ [])) ∙ ap (all_words h) (sym listed);
+  words = subst (λ xs. AreAt h.store xs (all_words h j.objects.items)) (sym words)
+      (subst (AreAt h.store g.words.items) found (add.words (all_words h f.objects.items) k.words));
   notes = notes ∙ ap (λ us. us ++ (Some (a, true) ∷ [])) add.notes
       ∙ append_three f.notes.items (notes_from h a 0 refs) (Some (a, true) ∷ [])
       ∙ (λ i. k.notes i ++ (notes_from h a 0 (e i) ++ (Some (a, true) ∷ [])))
@@ -99,6 +158,11 @@ object_found h a refs f g j free bit e add objects words notes start k = record 
   where
     listed : j.objects.items ≡ f.objects.items ++ (a ∷ [])
     listed = objects ∙ ap (λ us. us ++ (a ∷ [])) add.objects
+
+    found : all_words h f.objects.items ++ words_from h a 0 refs ≡ all_words h j.objects.items
+    found = (λ i. all_words h f.objects.items ++ words_from h a 0 (e i))
+        ∙ ap (λ us. all_words h f.objects.items ++ us) (sym (append_none (words_from h a 0 (refs_at h a))))
+        ∙ sym (words_both h f.objects.items (a ∷ [])) ∙ ap (all_words h) (sym listed)
 
 -- ---- several objects
 

@@ -2,7 +2,7 @@
 use Rattle.std.proofs.Common.{◌≡◌, ℕ, suc, ◌+◌, ◌*◌, ◌%◌, ◌≤◌, ◌<◌, ◌&&◌, not, true, false, Bool}
 use Rattle.std.proofs.Common.{List, [], ◌∷◌, get_or, is_some, Option, Some, None, refl, sym, ◌∙◌, ap, arith, subst}
 use Rattle.std.specs.List.{slice_get, list_any}
-use Rattle.std.specs.Prelude.{slice_index_or}
+use Rattle.std.specs.Prelude.{slice_index_or, Result, Ok, Err, IfOk}
 use Rattle.std.proofs.Math.Nat.{mul-add-mod_self_right, mod-eq_of_lt, mul-le-mul_right}
 use Rattle.std.proofs.lemmas.Nat.{div-mul-add}
 use Rattle.std.proofs.lemmas.Option.{get_or_from_slice_get}
@@ -106,3 +106,17 @@ pub pages_last : (h : HeapState) (first from end : ℕ) (f g : Batch)
 pages_last h first from end f g a le =
     more_then h ((first + 1) * h.store.words) ((from + 1) * h.store.words) ((end + 1) * h.store.words) f g g a
     (pages_passed h (from + 1) (end + 1) g (omega (arith, le)))
+
+-- what was found from a place on was found from a place before it on
+pub found_after : {E : Type 0} (h : HeapState) (page end place : ℕ) (f g : Batch) (r : Result ℕ E) → end ≤ place
+    → IfOk r (λ n. FindsMore h (page * h.store.words + place) (page * h.store.words + n) f g)
+    → IfOk r (λ n. FindsMore h (page * h.store.words + end) (page * h.store.words + n) f g)
+found_after h page end place f g (Ok n) le k =
+    more_then h (page * h.store.words + end) (page * h.store.words + place) (page * h.store.words + n) f f g
+    (more_none h (page * h.store.words + end) (page * h.store.words + place) f (omega (arith, le))) k
+found_after h page end place f g (Err e) le k = tt
+
+-- the place of an address in its page
+pub place_is : (w page o a : ℕ) → a ≡ page * w + o → o < w → o ≡ a % w
+place_is w page o a e within =
+    sym (ap (λ n. n % w) e ∙ mul-add-mod_self_right page w o ∙ mod-eq_of_lt within)

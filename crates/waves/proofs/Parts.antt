@@ -6,11 +6,11 @@ use Rattle.std.specs.Global.{Vec}
 use Rattle.refword.specs.declared.word.Word.{Word}
 use Rattle.model.specs.States.{HeapState}
 use Rattle.heap.specs.declared.batch.Batch.{Batch}
-use Rattle.heap.specs.Batches.{batch_objects}
-use Rattle.waves.specs.Finds.{AreMarked, Rises, Finds, start_of, PartsFind}
+use Rattle.heap.specs.Batches.{batch_objects, batch_words}
+use Rattle.waves.specs.Finds.{AreAt, AreMarked, Rises, Finds, start_of, PartsFind}
 use Rattle.waves.specs.Finds.{PartsFound}
 use Rattle.waves.specs.Waves.{all_words, all_notes}
-use Rattle.waves.proofs.Adding.{rises_both, marked_both, words_both, notes_both}
+use Rattle.waves.proofs.Adding.{at_both, rises_both, marked_both, words_both, notes_both}
 
 -- nothing was found
 pub none_found : (h : HeapState) (from to : ℕ) (f : Batch) → f.objects.items ≡ [] → f.words.items ≡ []
@@ -18,7 +18,8 @@ pub none_found : (h : HeapState) (from to : ℕ) (f : Batch) → f.objects.items
 none_found h from to f objects words notes le = record {
   rises = subst (Rises h from to) (sym objects) le;
   marked = subst (AreMarked h) (sym objects) tt;
-  words = words ∙ ap (all_words h) (sym objects);
+  words = subst (λ xs. AreAt h.store xs (all_words h f.objects.items)) (sym words)
+      (subst (λ us. AreAt h.store [] (all_words h us)) (sym objects) refl);
   notes = notes ∙ ap (all_notes h) (sym objects);
 }
 
@@ -75,15 +76,13 @@ parts_found h first size (f ∷ fs) k =
       rises = rises_both h (start_of h first) (start_of h (first + size)) rest.to f.objects.items (batch_objects fs)
           k.0.rises rest.rises;
       marked = marked_both h f.objects.items (batch_objects fs) k.0.marked rest.marked;
-      words = (λ i. k.0.words i ++ rest.words i) ∙ sym (words_both h f.objects.items (batch_objects fs));
+      words = subst (AreAt h.store (f.words.items ++ batch_words fs))
+          (sym (words_both h f.objects.items (batch_objects fs)))
+          (at_both h.store f.words.items (batch_words fs) (all_words h f.objects.items)
+          (all_words h (batch_objects fs)) k.0.words rest.words);
       notes = (λ i. k.0.notes i ++ rest.notes i) ∙ sym (notes_both h f.objects.items (batch_objects fs));
     }
 
-pub all_found : (h : HeapState) (size : ℕ) (fs : List Batch)
-    → ((i : ℕ) (d : Batch) → i < length fs
-    → Finds h (start_of h (i * size)) (start_of h (i * size + size)) (get_or fs i d)) → PartsFound h (start_of h 0) fs
-all_found h size fs k = parts_found h 0 size fs (parts_find h 0 size fs each)
-  where
-    each : EachFinds h 0 size fs
-    each i d l = subst (λ n. Finds h (start_of h n) (start_of h (0 + (i * size + size))) (get_or fs i d)) (omega arith)
-        (subst (λ n. Finds h (start_of h (i * size)) (start_of h n) (get_or fs i d)) (omega arith) (k i d l))
+pub all_found : (h : HeapState) (first size : ℕ) (fs : List Batch) → EachFinds h first size fs
+    → PartsFound h (start_of h first) fs
+all_found h first size fs k = parts_found h first size fs (parts_find h first size fs k)

@@ -35,7 +35,7 @@ AreEnds mark w (Some (a, false) ∷ ns) = AreEnds mark w ns
 le_zero : (n : ℕ) → nat_le 0 n ≡ true
 le_zero n = grind (arith, nat_tests)
 
-edit_zero : {X : Type 0} (xs : List X) (i : ℕ) (f : X → X) → edit_one 0 xs (i, f) ≡ change_at xs i f
+pub edit_zero : {X : Type 0} (xs : List X) (i : ℕ) (f : X → X) → edit_one 0 xs (i, f) ≡ change_at xs i f
 edit_zero xs i f =
     let less : i - 0 ≡ i = omega arith in
     ap (λ b. if b then change_at xs (i - 0) f else xs) (le_zero i) ∙ ap (λ n. change_at xs n f) less

@@ -12,21 +12,19 @@ use Rattle.heap.specs.declared.batch.Batch.{Batch}
 use Rattle.heap.specs.Batches.{batch_objects, batch_words, batch_notes}
 use Rattle.waves.specs.Finds.{PartsFound}
 use Rattle.heap.specs.Batches.{applied}
-use Rattle.waves.specs.Waves.{waved}
+use Rattle.waves.specs.Waves.{waved, all_words}
 use Rattle.waves.proofs.Done.{wave_done}
 use Rattle.waves.proofs.Folding.{written_words}
 use Rattle.waves.proofs.Passes.{noted_at_once}
-use Rattle.heap.specs.Batches.{all_written, edited, mark_edit, todo_edit, with_notes}
+use Rattle.waves.proofs.Written.{written_at}
+use Rattle.heap.specs.Batches.{all_written, edited, mark_edit, todo_edit, with_notes, with_writes}
 use Rattle.std.proofs.Common.{[], map}
 
 pub parts_drain : (h g : HeapState) (w n from : ℕ) (fs : List Batch) → IsReady h w → IsStore h.store → IsHeap h
-    → PartsFound h from fs → n ≡ length (batch_objects fs) → g ≡ applied h (batch_words fs) (batch_notes fs)
-    → ObjectsDone h w n g
-unfolding waved
+    → PartsFound h from fs → n ≡ length (batch_objects fs) → g ≡ waved h (batch_objects fs) → ObjectsDone h w n g
 parts_drain h g w n from fs r s i k e d =
     subst (λ m. ObjectsDone h w m g) (omega (arith, e))
-    (wave_done h h g w 0 from k.to (batch_objects fs) (objects_first h w r) s i k.rises
-    (d ∙ (λ j. applied h (k.words j) (k.notes j))))
+    (wave_done h h g w 0 from k.to (batch_objects fs) (objects_first h w r) s i k.rises d)
 
 pub objects_then : (h g k : HeapState) (w n m : ℕ) → ObjectsDone h w n g → ObjectsDone g w m k
     → ObjectsDone h w (n + m) k
@@ -59,26 +57,28 @@ unfolding applied
 written_then h vs ns = refl
 
 pub parts_applied : (h g k : HeapState) (from : ℕ) (fs : List Batch) → PartsFound h from fs
-    → g ≡ applied h (batch_words fs) [] → k ≡ with_notes g (batch_notes fs)
-    → k ≡ applied h (batch_words fs) (batch_notes fs)
+    → g ≡ with_writes h (batch_words fs) → k ≡ with_notes g (batch_notes fs) → k ≡ waved h (batch_objects fs)
+unfolding waved
 parts_applied h g k from fs p e d =
-    d ∙ ap (λ x. with_notes x (batch_notes fs)) e
-    ∙ written_first h (batch_words fs) (batch_notes fs)
-    ∙ ap (λ (x : HeapState). record x { store = all_written h.store (batch_words fs) })
+    let vs = all_words h (batch_objects fs) in
+    d ∙ ap (λ x. with_notes x (batch_notes fs)) (e ∙ written_at h (batch_words fs) vs p.words)
+    ∙ written_first h vs (batch_notes fs)
+    ∙ ap (λ (x : HeapState). record x { store = all_written h.store vs })
     (noted_at_once h (batch_objects fs) (batch_notes fs) p.marked p.notes)
-    ∙ written_then h (batch_words fs) (batch_notes fs)
+    ∙ written_then h vs (batch_notes fs) ∙ ap (applied h vs) p.notes
 
 -- what stays when references are written
-pub words_stay : (h g : HeapState) (vs : List (ℕ × Reference)) → g ≡ applied h vs [] → g.store.words ≡ h.store.words
-unfolding applied
-words_stay h g vs e = ap (λ (x : HeapState). x.store.words) e ∙ written_words h.store vs
+pub words_stay : (h g : HeapState) (vs : List (ℕ × ℕ × Reference)) → g ≡ with_writes h vs
+    → g.store.words ≡ h.store.words
+unfolding with_writes
+words_stay h g vs e = ap (λ (x : HeapState). x.store.words) e
 
-pub grey_stay : (h g : HeapState) (vs : List (ℕ × Reference)) → g ≡ applied h vs [] → g.todo ≡ h.todo
-unfolding applied
+pub grey_stay : (h g : HeapState) (vs : List (ℕ × ℕ × Reference)) → g ≡ with_writes h vs → g.todo ≡ h.todo
+unfolding with_writes
 grey_stay h g vs e = ap (λ (x : HeapState). x.todo) e
 
-pub marked_stay : (h g : HeapState) (vs : List (ℕ × Reference)) → g ≡ applied h vs [] → g.mark ≡ h.mark
-unfolding applied
+pub marked_stay : (h g : HeapState) (vs : List (ℕ × ℕ × Reference)) → g ≡ with_writes h vs → g.mark ≡ h.mark
+unfolding with_writes
 marked_stay h g vs e = ap (λ (x : HeapState). x.mark) e
 
 -- groups of pages, as many as are needed

@@ -1,9 +1,9 @@
 -- What a part of a wave finds.
-use Rattle.std.specs.Prelude.{◌≡◌, ℕ, ◌+◌, ◌*◌, ◌≤◌, true, List, [], ◌∷◌, ◌++◌}
+use Rattle.std.specs.Prelude.{◌≡◌, ℕ, ◌+◌, ◌*◌, ◌≤◌, true, List, [], ◌∷◌, ◌++◌, map, Option, Some}
 use Rattle.model.specs.Bits.{bit_at}
 use Rattle.model.specs.Scans.{is_free_todo}
-use Rattle.model.specs.States.{HeapState}
-use Rattle.model.specs.Stores.{word_at}
+use Rattle.model.specs.States.{Reference, HeapState}
+use Rattle.model.specs.Stores.{StoreState, spot_of, word_at}
 use Rattle.drains.specs.Drains.{refs_at}
 use Rattle.heap.specs.Batches.{batch_objects, batch_words, batch_notes}
 use Rattle.heap.specs.declared.batch.Batch.{Batch}
@@ -20,27 +20,44 @@ abbrev pub AreMarked : HeapState → List ℕ → Type 0
 AreMarked h [] = Unit {0}
 AreMarked h (a ∷ xs) = (bit_at h.mark h.store.words a ≡ true) × AreMarked h xs
 
+-- the spot of a place in memory, if there is one, with the reference for it
+abbrev pub spot_for : StoreState → ℕ × Reference → Option (ℕ × ℕ) × Reference
+spot_for s v = (spot_of s v.0, v.1)
+
+-- a spot with the reference for it
+abbrev pub spot_in : ℕ × ℕ × Reference → Option (ℕ × ℕ) × Reference
+spot_in x = (Some (x.0, x.1), x.2)
+
+-- references in frames, by frame and offset, are those that are for these places in memory
+abbrev pub AreAt : StoreState → List (ℕ × ℕ × Reference) → List (ℕ × Reference) → Type 0
+AreAt s xs vs = map (spot_for s) vs ≡ map spot_in xs
+
 -- what was found are such objects, and what their scans write and note
 pub record Finds (h : HeapState) (from to : ℕ) (f : Batch) : Type 0 where
   pub rises : Rises h from to f.objects.items
   pub marked : AreMarked h f.objects.items
-  pub words : f.words.items ≡ all_words h f.objects.items
+  pub words : AreAt h.store f.words.items (all_words h f.objects.items)
   pub notes : f.notes.items ≡ all_notes h f.objects.items
 
 -- something more was found, from one address on and before another
 abbrev pub FindsMore : HeapState → ℕ → ℕ → Batch → Batch → Type 0
 FindsMore h from to f g = (start : ℕ) → Finds h start from f → Finds h start to g
 
--- the mark of one reference was added, by its place
-pub record AddsField (h : HeapState) (place : ℕ) (f g : Batch) : Type 0 where
+-- the note of the mark of one reference was added, by its place
+pub record AddsNotes (h : HeapState) (place : ℕ) (f g : Batch) : Type 0 where
   pub objects : g.objects.items ≡ f.objects.items
-  pub words : g.words.items ≡ f.words.items ++ words_for h place (word_at h.store place)
   pub notes : g.notes.items ≡ f.notes.items ++ notes_for h (word_at h.store place)
+
+-- what the mark of one reference writes was added, by its place
+abbrev pub AddsWord : HeapState → ℕ → Batch → Batch → Type 0
+AddsWord h place f g = (vs : List (ℕ × Reference)) → AreAt h.store f.words.items vs
+    → AreAt h.store g.words.items (vs ++ words_for h place (word_at h.store place))
 
 -- the marks of k references of the object at an address were added, from number i on
 pub record AddsFields (h : HeapState) (a i k : ℕ) (f g : Batch) : Type 0 where
   pub objects : g.objects.items ≡ f.objects.items
-  pub words : g.words.items ≡ f.words.items ++ words_from h a i k
+  pub words : (vs : List (ℕ × Reference)) → AreAt h.store f.words.items vs
+      → AreAt h.store g.words.items (vs ++ words_from h a i k)
   pub notes : g.notes.items ≡ f.notes.items ++ notes_from h a i k
 
 -- the address at which the page of an index, from 0, begins
@@ -58,5 +75,5 @@ pub record PartsFound (h : HeapState) (from : ℕ) (fs : List Batch) : Type 0 wh
   pub to : ℕ
   pub rises : Rises h from to (batch_objects fs)
   pub marked : AreMarked h (batch_objects fs)
-  pub words : batch_words fs ≡ all_words h (batch_objects fs)
+  pub words : AreAt h.store (batch_words fs) (all_words h (batch_objects fs))
   pub notes : batch_notes fs ≡ all_notes h (batch_objects fs)

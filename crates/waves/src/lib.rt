@@ -3,6 +3,7 @@
 
 mod applying;
 mod finding;
+mod listing;
 mod parting;
 mod waving;
 

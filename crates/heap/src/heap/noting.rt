@@ -3,7 +3,8 @@
 ghost use Rattle.std.specs.Prelude.{◌≡◌, ◌≤◌, ◌<◌, ◌*◌, ◌/◌, ◌^◌, length, map, drop, filter, slice_get};
 ghost use Rattle.std.specs.Prelude.{Some, true, []};
 ghost use Rattle.model.specs.Bits.{put_bit};
-ghost use Rattle.heap.specs.Batches.{AllSorted, AreEmpty, in_bucket, items_in, batch_notes, edit_one, edited};
+ghost use Rattle.page.specs.Changing.{AreEmpty};
+ghost use Rattle.heap.specs.Batches.{AllSorted, in_bucket, items_in, batch_notes, edit_one, edited};
 ghost use Rattle.heap.specs.Batches.{todo_edit, mark_edit, with_notes};
 
 use crate::batch::{Batch, Groups};

@@ -7,7 +7,7 @@ loop-index-preserved c =
     let i = c.loop-index.index in
     fields_next c.args.heap.now c.args.address c.args.refs i (c.args.refs - i) (c.args.refs - (i + 1)) c.args.found.now
     c.loop-index.found c.find_field.new.found c.loop-index.invariant (omega (arith, c.loop-index-test.true))
-    c.in_ok-find_field.ensures
+    c.in_ok-find_field.ensures.notes c.in_ok-find_field.ensures.words
 
 pub returns : goal.returns
 returns c =

@@ -4,8 +4,9 @@ use Rattle.waves.proofs.finding.find_on.Given as goal
 
 abbrev pub invariant-loop-place : goal.invariant-loop-place
 invariant-loop-place l =
-    (l.from ≤ l.fn.heap.store.words)
-    × FindsMore l.fn.heap (l.fn.page * l.fn.heap.store.words) (l.fn.page * l.fn.heap.store.words + l.from) l.fn.found
+    (l.end ≤ l.fn.heap.store.words)
+    × (l.from ≤ l.fn.heap.store.words)
+    × FindsMore l.fn.heap (l.fn.page * l.fn.heap.store.words) (l.fn.page * l.fn.heap.store.words + l.end) l.fn.found
     l.found
 
 abbrev pub decreases-loop-place : goal.decreases-loop-place

@@ -8,8 +8,7 @@ use Rattle.waves.proofs.waving.wave.Goals as goal
 pub returns-clause-done : goal.returns-clause-done
 returns-clause-done g c =
     let h = c.args.heap.now in
-    parts_drain h c.apply_parts.new.heap c.args.worker c.in-Some.count (start_of h 0) c.in-Ok.found.items
+    parts_drain h c.apply_parts.new.heap c.args.worker c.in-Some.found (start_of h c.args.extent.first)
+    c.find_parts.new.parts
     (record { scan = c.requires.scan; none = c.requires.none; worker = c.requires.worker })
-    c.law.ensures.store c.law.ensures.heap c.in-Ok.ensures.found
-    (c.in-Some.ensures.count ∙ ap (λ fs. length (batch_objects fs)) c.deref.ensures.value)
-    (c.apply_parts.ensures ∙ ap (λ fs. applied h (batch_words fs) (batch_notes fs)) c.deref-2.ensures.value)
+    c.law.ensures.store c.law.ensures.heap c.find_parts.ensures.found c.in-Some.ensures.count c.apply_parts.ensures

@@ -1,5 +1,6 @@
 use Rattle.std.proofs.Common.{◌^◌, ◌/◌, ◌%◌, arith, filter, map, ap, sym, subst, drop, length, ◌≤◌, ◌∙◌}
-use Rattle.heap.specs.Batches.{AreEmpty, batch_notes, in_bucket, todo_edit}
+use Rattle.page.specs.Changing.{AreEmpty}
+use Rattle.heap.specs.Batches.{batch_notes, in_bucket, todo_edit}
 use Rattle.heap.proofs.Chunks.{rows_edited, in_chunk, bucket_after, same_group, todo_bucket, todo_keep}
 use Rattle.heap.proofs.heap.noting.note_grey_by.Goals as goal
 

@@ -1,5 +1,5 @@
 use Rattle.std.proofs.Common.{arith}
-use Rattle.heap.proofs.Chunks.{empty_more}
+use Rattle.page.proofs.Emptied.{empty_more}
 use Rattle.heap.proofs.heap.noting.used_rows.Goals as goal
 
 pub loop-end-preserved : goal.loop-end-preserved

@@ -1,5 +1,5 @@
 use Rattle.std.proofs.Common.{◌≤◌, length, drop}
-use Rattle.heap.specs.Batches.{AreEmpty}
+use Rattle.page.specs.Changing.{AreEmpty}
 use Rattle.heap.proofs.heap.noting.used_rows.Given as goal
 
 abbrev pub invariant-loop-end : goal.invariant-loop-end

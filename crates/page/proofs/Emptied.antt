@@ -1,0 +1,85 @@
+-- The last frames are empty, and other words in frames of the same lengths.
+use Rattle.std.proofs.Common.{◌≡◌, ℕ, zero, suc, ◌+◌, ◌-◌, ◌≤◌, ◌<◌, List, [], ◌∷◌, ◌++◌, length, drop, take, set, map, Option, Some, None}
+use Rattle.std.proofs.Common.{refl, sym, ◌∙◌, ap, arith, subst}
+use Rattle.std.specs.List.{slice_get}
+use Rattle.std.proofs.lemmas.List.{drop_more, drop_all, set_past}
+use Rattle.std.proofs.lemmas.Option.{slice_get_within, get_or_from_slice_get, same_Some}
+use Rattle.markbits.proofs.Prefixes.{front_again}
+use Rattle.model.specs.Owning.{IsStore, owned_size}
+use Rattle.model.specs.Stores.{StoreState, record_count}
+use Rattle.page.specs.Changing.{AreEmpty}
+
+pub empty_more : {X : Type 0} (rows : List (List X)) (n : ℕ) → AreEmpty (drop n rows) → 0 < n
+    → slice_get rows (n - 1) ≡ Some [] → AreEmpty (drop (n - 1) rows)
+empty_more rows n e low at =
+    subst AreEmpty (sym (drop_more rows (n - 1) [] (slice_get_within rows (n - 1) [] at)
+    ∙ (λ j. get_or_from_slice_get rows (n - 1) [] [] at j ∷ drop (next n low j) rows))) (refl, e)
+  where
+    next : (n : ℕ) → 0 < n → n - 1 + 1 ≡ n
+    next n low = omega (arith, low)
+
+pub empty_none : {X : Type 0} (rows : List (List X)) (n : ℕ) → n ≡ length rows → AreEmpty (drop n rows)
+empty_none rows n e = subst AreEmpty (sym (drop_all n rows (omega (arith, e)))) tt
+
+-- ---- other words
+
+-- a frame is as long as that of the same number
+alike : (xs ys : List (List ℕ)) (f : ℕ) (ws : List ℕ) → map length xs ≡ map length ys → slice_get xs f ≡ Some ws
+    → (vs : List ℕ) × (slice_get ys f ≡ Some vs) × (length ws ≡ length vs)
+alike [] ys f ws e at = absurd (cc)
+alike (x ∷ xs) [] f ws e at = absurd (cc)
+alike (x ∷ xs) (y ∷ ys) zero ws e at = (y, refl, ap length (same_Some _ _ (sym at)) ∙ first (length x) (length y) e)
+  where
+    first : (m n : ℕ) → m ∷ map length xs ≡ n ∷ map length ys → m ≡ n
+    first m n z = cc
+alike (x ∷ xs) (y ∷ ys) (suc f) ws e at = alike xs ys f ws (rest (length x) (length y) e) at
+  where
+    rest : (m n : ℕ) → m ∷ map length xs ≡ n ∷ map length ys → map length xs ≡ map length ys
+    rest m n z = cc
+
+as_many : (xs ys : List (List ℕ)) → map length xs ≡ map length ys → length xs ≡ length ys
+as_many [] [] e = refl
+as_many [] (y ∷ ys) e = absurd (cc)
+as_many (x ∷ xs) [] e = absurd (cc)
+as_many (x ∷ xs) (y ∷ ys) e = ap suc (as_many xs ys (rest (length x) (length y) e))
+  where
+    rest : (m n : ℕ) → m ∷ map length xs ≡ n ∷ map length ys → map length xs ≡ map length ys
+    rest m n z = cc
+
+pub frames_keep : (s : StoreState) (fs : List (List ℕ)) → IsStore s → map length fs ≡ map length s.frames
+    → IsStore (record s { frames = fs })
+frames_keep s fs h e =
+    let many = as_many fs s.frames e in
+    record {
+      sized = record {
+        words_low = h.sized.words_low;
+        words = h.sized.words;
+        frame_count = omega (arith, many, h.sized.frame_count);
+        count = h.sized.count;
+        owners = h.sized.owners ∙ sym many;
+        pages = h.sized.pages ∙ ap (λ n. record_count n s.count) (sym many);
+        frames = λ f o ws owner at.
+            let found = alike fs s.frames f ws e at in
+            found.2 ∙ h.sized.frames f o found.0 owner found.1;
+      };
+      pages = h.pages;
+      owning = record { owned = h.owning.owned; owner = h.owning.owner };
+      balanced = record {
+        frames = h.balanced.frames ∙ sym many;
+        leaving = omega (arith, many, h.balanced.leaving);
+      };
+    }
+
+-- ---- the first frames
+
+take_short : {X : Type 0} (m : ℕ) (xs : List X) → length (take m xs) ≤ m
+take_short zero xs = omega arith
+take_short (suc m) [] = omega arith
+take_short (suc m) (x ∷ xs) = let l = take_short m xs in omega (arith, l)
+
+-- the first elements that were changed, of a list in which nothing was set behind its end
+pub front_kept : {X : Type 0} (n m k : ℕ) (a b rest : List X) (x : X) → length a ≡ n → n ≤ m → m ≤ k
+    → take n (set (take m ((a ++ b) ++ rest)) k x) ≡ a
+front_kept n m k a b rest x e l after =
+    ap (take n) (set_past (take m ((a ++ b) ++ rest)) k x (omega (arith, after, take_short m ((a ++ b) ++ rest))))
+    ∙ front_again n m a b rest e l

@@ -1,0 +1,43 @@
+//! Frames of a store that are changed on threads.
+
+ghost use Rattle.std.specs.Prelude.{◌≡◌, ◌≤◌, ◌<◌, length, map, take, drop, List, ℕ};
+ghost use Rattle.std.specs.Fork.{AcceptsChunksMut, AllInChunks};
+ghost use Rattle.page.specs.Changing.{AreEmpty};
+
+use crate::frame::Frame;
+use crate::store::Store;
+use std::thread::Threads;
+
+impl Store {
+    /// Returns the number after that of the last frame that is the memory of a page.
+    pub fn frames_end(&self) -> usize
+        ensures within { result ≤ length self.now.frames }
+        ensures rest { AreEmpty (drop result self.now.frames) }
+    {
+        self.frames.end()
+    }
+
+    /// Changes the first `end` frames, `size` at once, on threads: each call gets the number of its first one. No call
+    /// may change how many words a frame has.
+    pub fn change_by<R: Threads + Sync, F: Fn(usize, &mut [Frame]) + Sync>(
+        &mut self,
+        rt: &R,
+        end: usize,
+        size: usize,
+        f: &F,
+    )
+        requires within { end ≤ length self.old.frames }
+        requires size { 0 < size }
+        requires accepts { AcceptsChunksMut F.Fn f.now size (take end self.old.frames) }
+        requires keeps { (fs : List (List ℕ)) → length fs ≡ length self.old.frames
+            → drop end fs ≡ drop end self.old.frames
+            → AllInChunks F.Fn f.now size (take end self.old.frames) (take end fs)
+            → map length fs ≡ map length self.old.frames }
+        ensures low { AllInChunks F.Fn f.now size (take end self.old.frames) (take end self.new.frames) }
+        ensures rest { drop end self.new.frames ≡ drop end self.old.frames }
+        ensures len { length self.new.frames ≡ length self.old.frames }
+        ensures same { self.new ≡ record self.old { frames = self.new.frames } }
+    {
+        self.frames.change_by(rt, end, size, f);
+    }
+}
