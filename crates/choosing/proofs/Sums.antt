@@ -1,18 +1,20 @@
 -- Live words are added up, object by object, and sparse pages listed, page by page.
 use Rattle.std.proofs.Common.{◌≡◌, ℕ, zero, suc, ◌+◌, ◌-◌, ◌<◌, ◌≤◌, Bool, true, false, List, [], ◌∷◌, ◌++◌}
-use Rattle.std.proofs.Common.{length, get_or, min, refl, sym, ap, ◌∙◌, subst, arith, Some, None}
+use Rattle.std.proofs.Common.{◌*◌, Option, length, get_or, min, refl, sym, ap, ◌∙◌, subst, arith, Some, None}
 use Rattle.std.proofs.Common.{if◌then◌else◌}
 use Rattle.std.specs.List.{All, slice_get, sum_by}
+use Rattle.std.proofs.lemmas.List.{append-nil, append_assoc}
 use Rattle.std.proofs.lemmas.Bool.{true≢false}
 use Rattle.std.proofs.lemmas.Option.{same_Some}
 use Rattle.std.proofs.lemmas.List.Sums.{sum_by-cons, sum_by_push}
 use Rattle.std.proofs.lemmas.List.Elements.{All-append, All-cons, All-nil}
+use Rattle.std.specs.Prelude.{Result, Ok, Err, OnOk}
 use Rattle.model.specs.States.{HeapState}
 use Rattle.model.specs.Plans.{offsets_from, live_offsets}
 use Rattle.model.specs.Tallies.{most_counted}
 use Rattle.model.proofs.OfPages.{of_page_none, of_page_some}
-use Rattle.choosing.specs.Choices.{ArePages, is_sparse, live_words, measured, measured_if, size_on, sparse_to}
-use Rattle.choosing.specs.Choices.{sparse_pages, words_in_use, words_on, words_to}
+use Rattle.choosing.specs.Choices.{AreOf, ArePages, is_sparse, live_words, measured, measured_if, size_on, sparse_to}
+use Rattle.choosing.specs.Choices.{sparse_pages, with_sparse, words_in_use, words_on, words_to}
 
 -- one more object is added to the total
 pub total_next : (f : ℕ → ℕ) (left rest : List ℕ) (k total new whole : ℕ) → left ≡ k ∷ rest → total + sum_by f left
@@ -78,6 +80,54 @@ words_more h i total live new is so more =
     let at : suc i ≡ i + 1 = omega arith in
     more ∙ ap (λ (n : ℕ). n + live) so ∙ ap (λ (n : ℕ). words_to h i + n) is
     ∙ subst (λ (k : ℕ). words_to h i + words_in_use h k ≡ words_to h k) at refl
+
+-- the pages after page `first`, up to page i
+module _ (h : HeapState) (percent first i : ℕ) (found : List (ℕ × ℕ)) (total : ℕ)
+    (so : AreOf h percent first i found total) where
+  added : (m : Option (ℕ × ℕ)) → m ≡ measured_if h percent (i + 1)
+      → sparse_to h percent first ++ with_sparse found m ≡ sparse_to h percent (i + 1)
+  added None is = sparse_same h percent i (sparse_to h percent first ++ found) is so.pages
+  added (Some m) is = sparse_more h percent i m (sparse_to h percent first ++ found)
+      (sparse_to h percent first ++ (found ++ m ∷ [])) is so.pages
+      (sym (append_assoc (sparse_to h percent first) found (m ∷ [])))
+
+  -- one more page was measured
+  pub one_more : (new : List (ℕ × ℕ)) (m : Option (ℕ × ℕ)) (live words : ℕ) → m ≡ measured_if h percent (i + 1)
+      → new ≡ with_sparse found m → live ≡ words_in_use h (i + 1) → live ≤ 131071 * 32768 → words ≡ total + live
+      → AreOf h percent first (i + 1) new words
+  one_more new m live words is more at few sum = record {
+    pages = ap (λ l. sparse_to h percent first ++ l) more ∙ added m is;
+    words = words_more h i (words_to h first + total) live (words_to h first + words) at so.words
+        (omega (arith, sum));
+    few = omega (arith, few, sum, so.few);
+  }
+
+-- none was measured yet
+pub none_yet : (h : HeapState) (percent first : ℕ) → AreOf h percent first first [] 0
+none_yet h percent first = record {
+  pages = append-nil (sparse_to h percent first);
+  words = omega arith;
+  few = omega arith;
+}
+
+-- two stretches of pages, one after the other
+pub both : (h : HeapState) (percent a b c : ℕ) (ps qs : List (ℕ × ℕ)) (m n : ℕ) → AreOf h percent a b ps m
+    → AreOf h percent b c qs n → AreOf h percent a c (ps ++ qs) (m + n)
+both h percent a b c ps qs m n one other = record {
+  pages = sym (append_assoc (sparse_to h percent a) ps qs) ∙ ap (λ l. l ++ qs) one.pages ∙ other.pages;
+  words = omega (arith, one.words, other.words);
+  few = omega (arith, one.few, other.few);
+}
+
+-- if nothing failed
+pub joined : {X E : Type 0} (h : HeapState) (percent b c : ℕ) (ps qs new : List (ℕ × ℕ)) (m n words : ℕ)
+    (done : Result X E) → AreOf h percent 0 b ps m → AreOf h percent b c qs n → OnOk done (new ≡ ps ++ qs)
+    → OnOk done (words ≡ m + n) → OnOk done (AreOf h percent 0 c new words)
+joined h percent b c ps qs new m n words (Err e) one other put sum = tt
+joined h percent b c ps qs new m n words (Ok x) one other put sum =
+    subst (λ (k : ℕ). AreOf h percent 0 c new k) (sym sum)
+    (subst (λ (l : List (ℕ × ℕ)). AreOf h percent 0 c l (m + n)) (sym put)
+    (both h percent 0 b c ps qs m n one other))
 
 -- one more page was chosen
 pub words_next : (h : HeapState) (n live words new : ℕ) (ns ms : List ℕ) → live ≡ live_words h n

@@ -57,6 +57,11 @@ measured h n = (live_words h n, n)
 abbrev pub measured_if : HeapState → ℕ → ℕ → Option (ℕ × ℕ)
 measured_if h percent n = if is_sparse h percent n then Some (measured h n) else None
 
+-- pages with one more, if it is sparse
+abbrev pub with_sparse : List (ℕ × ℕ) → Option (ℕ × ℕ) → List (ℕ × ℕ)
+with_sparse ps None = ps
+with_sparse ps (Some p) = ps ++ p ∷ []
+
 -- the sparse ones of pages 1 to n, each with its number of live words before it
 abbrev pub sparse_to : HeapState → ℕ → ℕ → List (ℕ × ℕ)
 sparse_to h percent zero = []
@@ -66,6 +71,12 @@ sparse_to h percent (suc n) = if is_sparse h percent (suc n) then sparse_to h pe
 -- all sparse pages, each with its number of live words before it
 abbrev pub sparse_pages : HeapState → ℕ → List (ℕ × ℕ)
 sparse_pages h percent = sparse_to h percent h.store.count
+
+-- pages and a number of words are the sparse ones and the live words of the pages after page `first`, up to page `end`
+pub record AreOf (h : HeapState) (percent first end : ℕ) (found : List (ℕ × ℕ)) (live : ℕ) : Type 0 where
+  pub pages : sparse_to h percent first ++ found ≡ sparse_to h percent end
+  pub words : words_to h first + live ≡ words_to h end
+  pub few : live + 131071 * 32768 * first ≤ 131071 * 32768 * end
 
 -- the page of a pair
 abbrev pub page_of : ℕ × ℕ → ℕ

@@ -5,7 +5,8 @@
 mod choosing;
 mod packing;
 mod sparse;
+mod threading;
 
-pub use choosing::{Choice, choose, choose_measured, room};
+pub use choosing::{Choice, choose, choose_measured, choose_measured_by, room};
 pub use packing::{Packing, first_packing, packed_page};
 pub use sparse::{Measure, measure_page};

@@ -1,10 +1,10 @@
 //! Pages with few live words.
 
-ghost use Rattle.std.specs.Prelude.{◌≡◌, ◌<◌, ◌≤◌, ◌*◌, length, IfOk};
+ghost use Rattle.std.specs.Prelude.{◌≡◌, ◌<◌, ◌≤◌, ◌*◌, ◌+◌, length, min, IfOk, IfSome, OnOk};
 ghost use Rattle.std.specs.List.{sum_by};
 ghost use Rattle.model.specs.Plans.{offsets_from};
-ghost use Rattle.choosing.specs.Choices.{all_words, is_closed_at, is_in_use, live_words, measured_if, size_on};
-ghost use Rattle.choosing.specs.Choices.{sparse_pages, words_in_use};
+ghost use Rattle.choosing.specs.Choices.{AreOf, all_words, is_closed_at, is_in_use, live_words, measured_if, size_on};
+ghost use Rattle.choosing.specs.Choices.{sparse_pages, with_sparse, words_in_use};
 
 use heap::{Heap, Row};
 use model::PageState;
@@ -117,20 +117,43 @@ pub(crate) struct Found {
     pub live_words: u64,
 }
 
-/// Measures all pages.
-#[tactic(auto, using(crate::proofs::Sums::sparse_more, crate::proofs::Sums::sparse_same, crate::proofs::Sums::words_more))]
+/// Adds a page to a list, if it is sparse. Fails only if out of memory.
+fn add_sparse(pages: &mut Vec<(u64, u32)>, sparse: Option<(u64, u32)>) -> Result<(), AllocError>
+    ensures { OnOk result (pages.new.items ≡ with_sparse pages.old.items sparse) }
+{
+    if let Some(page) = sparse {
+        pages.push(page)?;
+    }
+    Ok(())
+}
+
+/// Measures the pages after the first `first` ones, up to the page of number `end`. Fails only if out of memory.
+pub(crate) fn sparse_in(
+    alloc: Global,
+    heap: &Heap,
+    percent: u32,
+    first: u32,
+    end: u32,
+) -> Result<Found, AllocError>
+    requires { first ≤ end }
+    ensures { IfOk result (λ found. AreOf heap.now percent first end found.pages.items found.live_words) }
+{
+    let mut pages = Vec::new(alloc);
+    let mut live_words = 0u64;
+    for index in first..end {
+        let measure = measure_page(heap, percent, index + 1);
+        live_words += measure.live;
+        add_sparse(&mut pages, measure.sparse)?;
+    }
+    Ok(Found { pages, live_words })
+}
+
+/// Measures all pages. Fails only if out of memory.
 pub(crate) fn sparse(alloc: Global, heap: &Heap, percent: u32) -> Result<Found, AllocError>
     ensures pages { IfOk result (λ found. found.pages.items ≡ sparse_pages heap.now percent) }
     ensures words { IfOk result (λ found. found.live_words ≡ all_words heap.now) }
 {
-    let mut pages = Vec::new(alloc);
-    let mut live_words = 0u64;
-    for index in 0..heap.memory().page_count() {
-        let measure = measure_page(heap, percent, index + 1);
-        live_words += measure.live;
-        if let Some(page) = measure.sparse {
-            pages.push(page)?;
-        }
-    }
-    Ok(Found { pages, live_words })
+    let count = heap.memory().page_count();
+    let found = sparse_in(alloc, heap, percent, 0, count)?;
+    Ok(found)
 }

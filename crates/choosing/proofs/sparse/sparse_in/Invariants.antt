@@ -1,0 +1,5 @@
+use Rattle.choosing.specs.Choices.{AreOf}
+use Rattle.choosing.proofs.sparse.sparse_in.Given as goal
+
+abbrev pub invariant-loop-index : goal.invariant-loop-index
+invariant-loop-index l = AreOf l.heap l.percent l.first l.index l.pages.items l.live_words

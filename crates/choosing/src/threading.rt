@@ -1,0 +1,141 @@
+//! Pages that are measured on threads.
+
+ghost use Rattle.std.specs.Prelude.{◌≡◌, ◌<◌, ◌≤◌, ◌*◌, ◌+◌, ◌^◌, ◌++◌, length, min, IfOk, IfSome, OnOk};
+ghost use Rattle.choosing.specs.Choices.{AreOf, all_words, sparse_pages};
+ghost use Rattle.choosing.specs.Parts.{ArePartsOf, end_of};
+
+use crate::sparse::{Found, sparse, sparse_in};
+use heap::Heap;
+use std::alloc::{AllocError, Global};
+use std::thread::{Threads, map_indices};
+
+/// Returns the number of the last page of the first `parts` parts, of `size` pages each, of a heap of `pages` pages.
+fn end_of(pages: u32, size: u32, parts: usize) -> u32
+    requires { parts < 2 ^ 32 }
+    ensures { result ≡ end_of pages size parts }
+{
+    let end = parts as u64 * u64::from(size);
+    end.min(u64::from(pages)) as u32
+}
+
+/// Measures the pages after the first `first` ones, up to the page of number `end`. Returns `None` if out of memory.
+fn measure_part(heap: &Heap, percent: u32, first: u32, end: u32) -> Option<Found>
+    requires { first ≤ end }
+    ensures { IfSome result (λ found. AreOf heap.now percent first end found.pages.items found.live_words) }
+{
+    match sparse_in(heap.allocator(), heap, percent, first, end) {
+        Ok(found) => Some(found),
+        Err(_) => None,
+    }
+}
+
+/// Measures parts of `size` pages, each on a thread of its own. There is `None` for a part for which memory ran out.
+/// Fails only if out of memory for the list.
+fn measure_parts<R: Threads + Sync>(
+    rt: &R,
+    heap: &Heap,
+    percent: u32,
+    size: u32,
+    parts: u32,
+) -> Result<Vec<Option<Found>, Global>, AllocError>
+    ensures many { IfOk result (λ found. length found.items ≡ parts) }
+    ensures parts { IfOk result (λ found. ArePartsOf heap.now percent size found.items) }
+{
+    let pages = heap.memory().page_count();
+    let measure = |part: usize| -> Option<Found>
+        requires few { part + 1 < 2 ^ 32 }
+        ensures { IfSome result (λ found. AreOf heap.entry.now percent (end_of pages size part)
+            (end_of pages size (part + 1)) found.pages.items found.live_words) }
+    {
+        measure_part(
+            heap,
+            percent,
+            end_of(pages, size, part),
+            end_of(pages, size, part + 1),
+        )
+    };
+    let found = map_indices(rt, heap.allocator(), parts as usize, &measure)?;
+    Ok(found)
+}
+
+/// Adds what was measured of more pages. Fails only if out of memory.
+fn add_part(found: &mut Found, part: &Found) -> Result<(), AllocError>
+    requires { found.old.live_words + part.now.live_words < 2 ^ 64 }
+    ensures pages { OnOk result (found.new.pages.items ≡ found.old.pages.items ++ part.now.pages.items) }
+    ensures words { OnOk result (found.new.live_words ≡ found.old.live_words + part.now.live_words) }
+{
+    found.pages.extend_from_slice(&part.pages)?;
+    found.live_words += part.live_words;
+    Ok(())
+}
+
+/// Adds what was measured of the pages after the first `first` ones, up to the page of number `end`. If it is `None`,
+/// they are measured first. Fails only if out of memory.
+fn add_next(
+    alloc: Global,
+    heap: &Heap,
+    percent: u32,
+    first: u32,
+    end: u32,
+    part: &Option<Found>,
+    found: &mut Found,
+) -> Result<(), AllocError>
+    requires order { first ≤ end }
+    requires found { AreOf heap.now percent 0 first found.old.pages.items found.old.live_words }
+    requires part { IfSome part.now (λ p. AreOf heap.now percent first end p.pages.items p.live_words) }
+    ensures { OnOk result (AreOf heap.now percent 0 end found.new.pages.items found.new.live_words) }
+{
+    match part {
+        Some(part) => add_part(found, part),
+        None => {
+            let part = sparse_in(alloc, heap, percent, first, end)?;
+            add_part(found, &part)
+        }
+    }
+}
+
+/// Returns what was measured of all parts, of `size` pages each, and measures the pages after them. Fails only if out
+/// of memory.
+fn join_parts(
+    alloc: Global,
+    heap: &Heap,
+    percent: u32,
+    size: u32,
+    parts: &[Option<Found>],
+) -> Result<Found, AllocError>
+    requires few { length parts.now < 2 ^ 32 }
+    requires parts { ArePartsOf heap.now percent size parts.now }
+    ensures { IfOk result (λ found. AreOf heap.now percent 0 heap.now.store.count found.pages.items found.live_words) }
+{
+    let pages = heap.memory().page_count();
+    let mut found = sparse_in(alloc, heap, percent, 0, 0)?;
+    for index in 0..parts.len() {
+        let first = end_of(pages, size, index);
+        let end = end_of(pages, size, index + 1);
+        add_next(alloc, heap, percent, first, end, &parts[index], &mut found)?;
+    }
+    let first = end_of(pages, size, parts.len());
+    add_next(alloc, heap, percent, first, pages, &None, &mut found)?;
+    Ok(found)
+}
+
+/// Measures all pages as `sparse` does, on a number of threads, each for some of the pages. Fails only if out of
+/// memory.
+pub(crate) fn sparse_by<R: Threads + Sync>(
+    rt: &R,
+    alloc: Global,
+    heap: &Heap,
+    percent: u32,
+    threads: u32,
+) -> Result<Found, AllocError>
+    ensures pages { IfOk result (λ found. found.pages.items ≡ sparse_pages heap.now percent) }
+    ensures words { IfOk result (λ found. found.live_words ≡ all_words heap.now) }
+{
+    let threads = threads.clamp(1, 1024);
+    let size = heap.memory().page_count() / threads + 1;
+    let Ok(parts) = measure_parts(rt, heap, percent, size, threads) else {
+        return sparse(alloc, heap, percent);
+    };
+    let found = join_parts(alloc, heap, percent, size, &parts)?;
+    Ok(found)
+}
