@@ -8,8 +8,12 @@ loop-number-preserved-then-next-number c = (
   packed_up_to c.args.words c.loop-number.packing c.pack_fitting-packing.result _ c.args.sizes.now c.loop-number.number
       c.fitting-next.result c.if-next-number.true c.fitting-next.ensures.high
       (c.fitting-next.ensures.fits c.if-next-number.true) c.pack_fitting-packing.ensures c.loop-number.invariant.0,
-  omega (arith, c.fitting-next.ensures.low, c.loop-number.invariant.1,
-      ap (λ (s : Packing). s.target) c.pack_fitting-packing.ensures),
+  omega (
+    arith,
+    c.fitting-next.ensures.low,
+    c.loop-number.invariant.1,
+    ap (λ (s : Packing). s.target) c.pack_fitting-packing.ensures,
+  ),
   c.fitting-next.ensures.high,
 )
 
