@@ -30,7 +30,7 @@ use Rattle.managed.specs.Scrubbing.{needs_no_scrub}
 use Rattle.managed.proofs.Going.{goes_none, goes_then}
 use Rattle.managed.proofs.Gathering.{collected, crossings_collect}
 use Rattle.collecting.specs.declared.collecting.Collected.{Collected}
-use Rattle.collecting.specs.Collections.{MarksWhole}
+use Rattle.collecting.specs.Collections.{Then, SettlesAndMarks, MarksAndEmpties, MarksWhole, EndsCollecting}
 use Rattle.collecting.specs.Collections.{WORKER, Collects, EndsLeft, EndsLeftPages, EndsSettling, EndsDue, has_from}
 use Rattle.collecting.specs.Collections.{EndsDueMark, EndsChosen, EndsChoice}
 use Rattle.collecting.specs.Collections.{EndsBehind, EndsCycle, CollectsWhole}
@@ -198,45 +198,71 @@ behind_lacks percent live h = (none h, inl (refl, refl))
 
 -- ---- all of it
 
+-- the steps of each
+behind_goes : (percent live : ℕ) (h g : HeapState) (r : Result Collected Refusal) → EndsBehind percent live h r g
+    → Collects h g
+behind_goes percent live h g (Ok x) k = k.1
+behind_goes percent live h g (Err e) k = k.0
+
+settling_goes : (h g : HeapState) (r : Result Unit Refusal) → EndsSettling h r g → Collects h g
+settling_goes h g (Ok u) k = k.0
+settling_goes h g (Err e) k = k.0
+
+-- one, and then another
+module _ {A B : Type 0} (P : HeapState → Result A Refusal → HeapState → Type 0)
+    (Q : A → HeapState → Result B Refusal → HeapState → Type 0) (h : HeapState) (p : Result A Refusal) where
+  then_more : (m g : HeapState) (x : A) (r : Result B Refusal) → p ≡ Ok x → P h p m → Q x m r g → Then P Q h r g
+  then_more m g x (Ok y) is a b = (m, x, subst (λ (z : Result A Refusal). P h z m) is a, b)
+  then_more m g x (Err e) is a b = inr (m, x, subst (λ (z : Result A Refusal). P h z m) is a, b)
+
+  then_stops : (g : HeapState) (e : Refusal) → p ≡ Err e → P h p g → Then P Q h (Err e) g
+  then_stops g e is a = inl (subst (λ (z : Result A Refusal). P h z g) is a)
+
 pub cycle_then : (percent live : ℕ) (h m g : HeapState) (d : Result ℕ Refusal) (r : Result Collected Refusal)
     → d ≡ Ok live → Collects h m → EndsDueMark h d m → EndsBehind percent live m r g → EndsCycle percent h r g
-cycle_then percent live h m g d (Ok x) is a b k =
-    let due : EndsDueMark h (Ok live) m = subst (λ (x : Result ℕ Refusal). EndsDueMark h x m) is b in
-    (and_then h m g a k.1, (m, subst (λ (n : ℕ). EndsDueMark h (Ok n) m) (sym k.0) due, k.2))
-cycle_then percent live h m g d (Err e) is a b k =
-    let due : EndsDueMark h (Ok live) m = subst (λ (x : Result ℕ Refusal). EndsDueMark h x m) is b in
-    (and_then h m g a k.0, inr (m, live, due, k.1))
+cycle_then percent live h m g d r is a b k = (
+  and_then h m g a (behind_goes percent live m g r k),
+  then_more EndsDueMark (EndsBehind percent) h d m g live r is b k,
+)
 
 pub cycle_stops : (percent : ℕ) (h g : HeapState) (d : Result ℕ Refusal) (e : Refusal) → d ≡ Err e → Collects h g
     → EndsDueMark h d g → EndsCycle percent h (Err e) g
-cycle_stops percent h g d e is a b = (a, inl (subst (λ (x : Result ℕ Refusal). EndsDueMark h x g) is b))
+cycle_stops percent h g d e is a b = (a, then_stops EndsDueMark (EndsBehind percent) h d g e is b)
 
 pub whole_then : (percent : ℕ) (h m g : HeapState) (s : Result Unit Refusal) (u : Unit {0})
     (r : Result Collected Refusal) → s ≡ Ok u → EndsSettling h s m → EndsCycle percent m r g
     → CollectsWhole percent h r g
-whole_then percent h m g (Err e) u r is a b = absurd (cc)
-whole_then percent h m g (Ok v) u (Ok r) is a b = (and_then h m g a.0 b.0, (m, a, b.1))
-whole_then percent h m g (Ok v) u (Err e) is a b = (and_then h m g a.0 b.0, inr (m, a, b.1))
+whole_then percent h m g s u r is a b = (
+  and_then h m g (settling_goes h m s a) b.0,
+  then_more EndsSettling (λ (v : Unit {0}). MarksAndEmpties percent) h s m g u r is a b.1,
+)
 
 pub whole_stops : (percent : ℕ) (h g : HeapState) (s : Result Unit Refusal) (e : Refusal) → s ≡ Err e
     → EndsSettling h s g → CollectsWhole percent h (Err e) g
-whole_stops percent h g s e is a =
-    let k : EndsSettling h (Err e) g = subst (λ (x : Result Unit Refusal). EndsSettling h x g) is a in
-    (k.0, inl k.1)
+whole_stops percent h g s e is a = (
+  settling_goes h g s a,
+  then_stops EndsSettling (λ (v : Unit {0}). MarksAndEmpties percent) h s g e is a,
+)
 
 -- ---- a mark alone
 
 pub marked_then : (h m g : HeapState) (s : Result Unit Refusal) (u : Unit {0}) (r : Result ℕ Refusal) → s ≡ Ok u
     → EndsSettling h s m → Collects m g → EndsDueMark m r g → MarksWhole h r g
-marked_then h m g (Err e) u r is a b due = absurd (cc)
-marked_then h m g (Ok v) u (Ok live) is a b due = (and_then h m g a.0 b, (m, a, due))
-marked_then h m g (Ok v) u (Err e) is a b due = (and_then h m g a.0 b, λ percent. inr (m, a, inl due))
+marked_then h m g s u r is a b due = (
+  and_then h m g (settling_goes h m s a) b,
+  then_more EndsSettling (λ (v : Unit {0}). EndsDueMark) h s m g u r is a due,
+)
 
 pub marked_stops : (h g : HeapState) (s : Result Unit Refusal) (e : Refusal) → s ≡ Err e → EndsSettling h s g
     → MarksWhole h (Err e) g
 marked_stops h g s e is a =
-    let k : EndsSettling h (Err e) g = subst (λ (x : Result Unit Refusal). EndsSettling h x g) is a in
-    (k.0, λ percent. inl k.1)
+    (settling_goes h g s a, then_stops EndsSettling (λ (v : Unit {0}). EndsDueMark) h s g e is a)
+
+-- a collection whose mark failed has failed
+pub marking_stops : (percent : ℕ) (h g : HeapState) (e : Refusal) → SettlesAndMarks h (Err e) g
+    → EndsCollecting percent h (Err e) g
+marking_stops percent h g e (inl k) = inl k
+marking_stops percent h g e (inr k) = inr (k.0, k.1, k.2, inl k.3)
 
 -- ---- registers
 

@@ -4,24 +4,18 @@ use Rattle.std.proofs.Common.{◌∷◌, ◌++◌, length, map, take, get_or, na
 use Rattle.std.proofs.Common.{refl, sym}
 use Rattle.std.proofs.Common.{subst, ap, inl, inr, arith}
 use Rattle.std.specs.Prelude.{◌&&◌, ◌||◌, IsPermutation}
-use Rattle.std.specs.List.{slice_get, list_all}
-use Rattle.std.proofs.lemmas.Bool.{and_parts, leb-true, true≢false}
+use Rattle.std.proofs.lemmas.Bool.{true≢false}
 use Rattle.std.proofs.lemmas.Bool.Decides.{nat_tests}
 use Rattle.std.proofs.lemmas.List.{length-take, take-take}
 use Rattle.std.proofs.lemmas.Option.{same_Some}
-use Rattle.layout.specs.declared.shape.Layout.{Layout}
-use Rattle.layout.specs.Objects.{size_of}
-use Rattle.model.specs.Configs.{IsRanged, fits_page}
-use Rattle.model.specs.Data.{layout_at, layout_in, header_layout}
 use Rattle.model.specs.Holding.{IsHeap}
 use Rattle.model.specs.Owning.{IsStore}
-use Rattle.model.specs.Plans.{live_offsets, object_words, words_of}
+use Rattle.model.specs.Plans.{live_offsets}
 use Rattle.model.specs.Protections.{free_count, no_page_in}
 use Rattle.model.specs.States.{HeapState}
-use Rattle.model.specs.Stores.{word_at}
 use Rattle.choosing.specs.declared.packing.Packing.{Packing}
 use Rattle.choosing.specs.Choices.{IsRising, has_room_for, page_of, size_on, sizes_on}
-use Rattle.choosing.specs.Packings.{has_page_for, pack, pack_if, pack_one}
+use Rattle.choosing.specs.Packings.{has_page_for, pack, pack_if}
 use Rattle.choosing.proofs.Cuts.{IsBeginning, behind, goes_on, is_cut, is_whole, room_in}
 use Rattle.choosing.proofs.Low.{object_low, packed_low}
 use Rattle.collecting.specs.Stages.{IsChosen, IsFitting, dead_count, emptied_of, found_words}

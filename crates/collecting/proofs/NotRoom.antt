@@ -31,7 +31,7 @@ use Rattle.managed.specs.Collecting.{StopsCrossing, StopsScanning, StopsMarking}
 use Rattle.managed.specs.Emptying.{StopsPage, EndsEmptying}
 use Rattle.managed.proofs.Going.{next_scans}
 use Rattle.collecting.specs.declared.collecting.Collected.{Collected}
-use Rattle.collecting.specs.Collections.{WORKER, StopsSettling, EndsDue, StopsSparse, StopsCycle}
+use Rattle.collecting.specs.Collections.{WORKER, StopsSettling, EndsDue, StopsSparse, MarksAndEmpties}
 use Rattle.collecting.specs.Collections.{EndsCollecting, is_of_rooms, IsNotRoom}
 use Rattle.collecting.specs.Parts.{EndsPart, StopsAt}
 use Rattle.collecting.specs.Parts.{Beginning, Crossing, Scanning, Ending, Emptying}
@@ -265,10 +265,10 @@ sparse_not : (percent : ℕ) (h : HeapState) (e : Refusal) (g : HeapState) → S
 sparse_not percent h e g (inl k) = ap is_of_rooms k.0
 sparse_not percent h e g (inr k) = emptying_not h k.0 e g k.1.3.2 k.2
 
-cycle_not : (percent : ℕ) (h : HeapState) (e : Refusal) (g : HeapState) → StopsCycle percent h e g
+cycle_not : (percent : ℕ) (h : HeapState) (e : Refusal) (g : HeapState) → MarksAndEmpties percent h (Err e) g
     → is_of_rooms e ≡ false
 cycle_not percent h e g (inl k) = due_not (is_marking h.phase) h e g k
-cycle_not percent h e g (inr k) = sparse_not percent k.0 e g k.3
+cycle_not percent h e g (inr k) = sparse_not percent k.0 e g k.3.1
 
 settling_not : (h : HeapState) (e : Refusal) (g : HeapState) → StopsSettling h e g → is_of_rooms e ≡ false
 settling_not h e g (inl k) = crossing_stops_not h e g k
@@ -278,8 +278,8 @@ settling_not h e g (inr k) = page_stops_not k.0 k.1 e g k.3.1
 pub collecting_not : (percent : ℕ) (h : HeapState) (r : Result Collected Refusal) (g : HeapState)
     → EndsCollecting percent h r g → IsNotRoom r
 collecting_not percent h (Ok r) g k = tt
-collecting_not percent h (Err e) g (inl k) = settling_not h e g k
-collecting_not percent h (Err e) g (inr k) = cycle_not percent k.0 e g k.2
+collecting_not percent h (Err e) g (inl k) = settling_not h e g k.1
+collecting_not percent h (Err e) g (inr k) = cycle_not percent k.0 e g k.3
 
 -- ---- a part of one
 

@@ -13,7 +13,8 @@ use Rattle.cycle.specs.Mutating.{DoesThread, ThreadStands}
 use Rattle.collecting.specs.declared.counting.Counters.{Counters}
 use Rattle.collecting.specs.Collections.{Collects}
 use Rattle.collecting.specs.Counting.{CountedBy, CountsMakePaced, CountsPaced, CountsPacedIf, part_counted}
-use Rattle.collecting.specs.Pacing.{MakesPaced, MakesPacedIf, PacedBy, Paces, PacesAndMakes, lacks_buffer, most_parts, stops}
+use Rattle.collecting.specs.Pacing.{MakesPaced, MakesPacedIf, PacedBy, Paces, PacesAndMakes, lacks_buffer, most_parts}
+use Rattle.collecting.specs.Pacing.{stops}
 use Rattle.collecting.specs.Parts.{EndsPart}
 use Rattle.collecting.specs.Rooms.{EndsMaking}
 use Rattle.collecting.specs.Stages.{PartGoesOn, PartsState}

@@ -32,6 +32,7 @@ use Rattle.collecting.specs.Collections.{WORKER, Collects, CollectsWhole, EndsCo
 use Rattle.collecting.specs.Collections.{has_buffer, is_of_rooms, lacks_room}
 use Rattle.collecting.specs.Rooms.{IsRefill, Refills, EndsRefill, RefillsBy, HasMarkedSince, HasTriedAll, IsAny}
 use Rattle.collecting.specs.Rooms.{IsNotHeld, EndsMaking, EndsTaking, LacksPage, MakingStands}
+use Rattle.collecting.proofs.Collections.{marking_stops}
 use Rattle.collecting.proofs.NotRoom.{collecting_not}
 use Rattle.collecting.proofs.Given.{never_held}
 
@@ -213,7 +214,7 @@ pub marked_stops : (t n percent : ℕ) (h g : HeapState) (c : Result ℕ Refusal
     → MarksWhole h c g → RefillsBy (HasMarkedSince t) t n percent h (Err e) g
 marked_stops t n percent h g c e is a =
     let k : MarksWhole h (Err e) g = subst (λ (x : Result ℕ Refusal). MarksWhole h x g) is a in
-    (collects_refill t h g k.0, inr (inr (h, goes_none (IsRefill t) h, k.1 percent)))
+    (collects_refill t h g k.0, inr (inr (h, goes_none (IsRefill t) h, marking_stops percent h g e k.1)))
 
 -- the words were taken at once, or the error is another one than lack of space
 pub at_once : (Q : HeapState → HeapState → Type 0) (t n percent : ℕ) (h g : HeapState) (q : Result Buffer Refusal)

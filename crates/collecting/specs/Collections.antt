@@ -21,6 +21,12 @@ WORKER = 0
 abbrev pub Collects : HeapState → HeapState → Type 0
 Collects h g = Goes (IsCollecting WORKER) h g
 
+-- P, and then Q, which takes the result of P; or one of them failed with e, and nothing more was done
+abbrev pub Then : {A B : Type 0} → (HeapState → Result A Refusal → HeapState → Type 0)
+    → (A → HeapState → Result B Refusal → HeapState → Type 0) → HeapState → Result B Refusal → HeapState → Type 0
+Then {A = A} P Q h (Ok y) g = (m : HeapState) × (x : A) × P h (Ok x) m × Q x m (Ok y) g
+Then {A = A} P Q h (Err e) g = P h (Err e) g ⊎ ((m : HeapState) × (x : A) × P h (Ok x) m × Q x m (Err e) g)
+
 -- some page is being emptied, and has memory
 abbrev pub has_from : List Page → Bool
 has_from pages = list_any (λ (p : Page). is_from p.state) pages
@@ -114,39 +120,33 @@ abbrev pub EndsBehind : ℕ → ℕ → HeapState → Result Collected Refusal �
 EndsBehind percent live h (Ok r) g = (r.live ≡ live) × Collects h g × EmptiesSparse percent h r g
 EndsBehind percent live h (Err e) g = Collects h g × StopsSparse percent h e g
 
--- a mark failed with e, or the choice or the emptying of pages after it did
-abbrev pub StopsCycle : ℕ → HeapState → Refusal → HeapState → Type 0
-StopsCycle percent h e g =
-    EndsDueMark h (Err e) g ⊎ ((m : HeapState) × (live : ℕ) × EndsDueMark h (Ok live) m × StopsSparse percent m e g)
+-- a mark, and the choice and the emptying of pages after it
+abbrev pub MarksAndEmpties : ℕ → HeapState → Result Collected Refusal → HeapState → Type 0
+MarksAndEmpties percent h result g = Then EndsDueMark (EndsBehind percent) h result g
 
--- a mark has ended, and then pages were chosen and emptied
-abbrev pub EndsWhole : ℕ → HeapState → Collected → HeapState → Type 0
-EndsWhole percent h r g = (m : HeapState) × EndsDueMark h (Ok r.live) m × EmptiesSparse percent m r g
-
--- how a mark ended, and the choice and the emptying of pages after it
+-- its steps, and how it ended
 abbrev pub EndsCycle : ℕ → HeapState → Result Collected Refusal → HeapState → Type 0
-EndsCycle percent h (Ok r) g = Collects h g × EndsWhole percent h r g
-EndsCycle percent h (Err e) g = Collects h g × StopsCycle percent h e g
+EndsCycle percent h result g = Collects h g × MarksAndEmpties percent h result g
 
--- how a collection ended. First the rest of an earlier one was finished; then a mark, and pages were emptied; or one
--- of these failed with e
+-- how a collection ended: the rest of an earlier one was finished, and then a mark, and pages were emptied
 abbrev pub EndsCollecting : ℕ → HeapState → Result Collected Refusal → HeapState → Type 0
-EndsCollecting percent h (Ok r) g = (m : HeapState) × Settles h m × EndsWhole percent m r g
-EndsCollecting percent h (Err e) g =
-    StopsSettling h e g ⊎ ((m : HeapState) × Settles h m × StopsCycle percent m e g)
+EndsCollecting percent h result g = Then EndsSettling (λ (u : Unit {0}). MarksAndEmpties percent) h result g
 
 -- the steps of a collection, and how it ended
 abbrev pub CollectsWhole : ℕ → HeapState → Result Collected Refusal → HeapState → Type 0
 CollectsWhole percent h result g = Collects h g × EndsCollecting percent h result g
 
+-- how the rest of an earlier collection ended, and a mark after it
+abbrev pub SettlesAndMarks : HeapState → Result ℕ Refusal → HeapState → Type 0
+SettlesAndMarks h result g = Then EndsSettling (λ (u : Unit {0}). EndsDueMark) h result g
+
 -- the rest of an earlier collection was finished, and then a mark has ended, which found `live` objects
 abbrev pub HasMarked : HeapState → ℕ → HeapState → Type 0
-HasMarked h live g = (m : HeapState) × Settles h m × EndsDueMark m (Ok live) g
+HasMarked h live g = SettlesAndMarks h (Ok live) g
 
--- HasMarked with the steps; or one of these failed with e
+-- the steps of both, and how they ended
 abbrev pub MarksWhole : HeapState → Result ℕ Refusal → HeapState → Type 0
-MarksWhole h (Ok live) g = Collects h g × HasMarked h live g
-MarksWhole h (Err e) g = Collects h g × ((percent : ℕ) → EndsCollecting percent h (Err e) g)
+MarksWhole h result g = Collects h g × SettlesAndMarks h result g
 
 -- the error is that there are too few frames or pages
 abbrev pub lacks_room : Refusal → Bool

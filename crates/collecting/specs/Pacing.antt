@@ -1,6 +1,7 @@
 -- Objects that are made during a collection in parts.
 use Rattle.std.specs.Prelude.{◌≡◌, ◌⊎◌, ◌<◌, ◌≤◌, ◌||◌, not, ℕ, zero, suc, ◌+◌, ◌-◌, ◌*◌, ◌/◌, ◌^◌, Bool, true, false}
-use Rattle.std.specs.Prelude.{◌&&◌, ◌==◌, count_by, is_none, is_some, length, max, min, slice_get, Result, Ok, Err, if◌then◌else◌}
+use Rattle.std.specs.Prelude.{◌&&◌, ◌==◌, count_by, is_none, is_some, length, max, min, slice_get, Result, Ok, Err}
+use Rattle.std.specs.Prelude.{if◌then◌else◌}
 use Rattle.model.specs.Outcome.{outcome}
 use Rattle.model.specs.Phases.{is_marking}
 use Rattle.model.specs.States.{HeapState}

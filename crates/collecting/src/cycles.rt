@@ -15,6 +15,7 @@ use std::alloc::Global;
 
 /// Runs the mark that is due: the rest of the one that runs, else a complete one.
 fn mark_due<M: Marking>(heap: &mut ManagedHeap, by: &M) -> Result<u64, Refusal>
+    requires { M.may_mark by.now }
     ensures goes { Collects heap.old heap.new }
     ensures ends { EndsDueMark heap.old result heap.new }
 {
@@ -28,6 +29,7 @@ fn mark_due<M: Marking>(heap: &mut ManagedHeap, by: &M) -> Result<u64, Refusal>
 /// Finishes whatever an earlier collection has left, and then runs the mark that is due. Returns how many objects
 /// live.
 pub(crate) fn mark_whole<M: Marking>(heap: &mut ManagedHeap, by: &M) -> Result<u64, Refusal>
+    requires { M.may_mark by.now }
     ensures { MarksWhole heap.old result heap.new }
 {
     match settle(heap) {
@@ -92,6 +94,7 @@ fn run_cycle<M: Marking>(
     percent: u32,
     by: &M,
 ) -> Result<Collected, Refusal>
+    requires { M.may_mark by.now }
     ensures ends { EndsCycle percent heap.old result heap.new }
     ensures scrubbed { IfOk result (λ collected. AreScrubbed heap.new) }
 {
@@ -108,6 +111,7 @@ pub(crate) fn collect_whole<M: Marking>(
     percent: u32,
     by: &M,
 ) -> Result<Collected, Refusal>
+    requires { M.may_mark by.now }
     ensures ends { CollectsWhole percent heap.old result heap.new }
     ensures scrubbed { IfOk result (λ collected. AreScrubbed heap.new) }
 {

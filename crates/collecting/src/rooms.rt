@@ -9,8 +9,8 @@ ghost use Rattle.collecting.specs.Rooms.{EndsMaking, HasMarkedSince, IsAny, Refi
 
 use crate::counting::{Cause, Counters, collect_counted};
 use crate::cycles::mark_whole;
-use crate::marking::Alone;
 use crate::low::are_low;
+use crate::marking::Alone;
 use crate::policy::Policy;
 use cycle::Mutating;
 use managed::ManagedHeap;

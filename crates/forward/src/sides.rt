@@ -1,6 +1,7 @@
 //! The forwarding tables of all pages.
 
-ghost use Rattle.std.specs.Prelude.{◌≡◌, ◌<◌, ◌≤◌, length, replicate, map, slice_get, slice_set, [], IfOk, IfSome, is_some, not};
+ghost use Rattle.std.specs.Prelude.{◌≡◌, ◌<◌, ◌≤◌, length, replicate, map, slice_get, slice_set, [], IfOk, IfSome};
+ghost use Rattle.std.specs.Prelude.{is_some, not};
 ghost use Rattle.std.specs.Prelude.{unwrap_or};
 ghost use Rattle.std.specs.List.{list_any};
 ghost use Rattle.std.specs.Option.{option_copied};

@@ -10,8 +10,8 @@ use managed::ManagedHeap;
 use model::Refusal;
 use std::alloc::AllocError;
 
-/// Returns how many pages a part with a budget of `budget` objects measures: as many as have 64 words for each of these,
-/// and one more.
+/// Returns how many pages a part with a budget of `budget` objects measures: as many as have 64 words for each of
+/// these, and one more.
 pub(super) fn pages_in(heap: &Heap, budget: u32) -> u64
     ensures value { result ≡ pages_in budget heap.now.config.words }
     ensures least { 0 < result }
