@@ -171,7 +171,7 @@ install: pauseless libpauseless.a
 		> '$(DESTDIR)$(PREFIX)/lib/pkgconfig/pauseless.pc'
 
 # The parts of the bench, which are programs of bench/.
-PARTS = c_calls lisp calls commands run boehm crowds zgc pauses large cache data
+PARTS = c_calls lisp calls commands run boehm waves crowds zgc pauses large cache data
 
 # The programs in Rattle that they measure.
 BENCHES = bench_calls bench_collections bench_sharing bench_lock bench_portions bench_lists

@@ -1,5 +1,5 @@
 -- Objects of a list are scanned.
-use Rattle.std.proofs.Common.{◌≡◌, ℕ, ◌+◌, Bool, true, false, List, [], reverse, refl, sym, ◌∙◌, ap, arith, subst}
+use Rattle.std.proofs.Common.{◌≡◌, ℕ, ◌+◌, true, false, List, [], reverse, sym, ◌∙◌, ap, subst}
 use Rattle.model.specs.Holding.{IsHeap}
 use Rattle.model.specs.Owning.{IsStore}
 use Rattle.model.specs.Scans.{is_free_todo}

@@ -1,4 +1,5 @@
-//! A heap with many objects on one level: a table of tables, and objects that refer to the first table.
+//! A heap with many objects on two levels: a table of tables, whose objects refer to others, and these to the first
+//! table.
 
 use cycle::{Mutating, Stepping};
 use drains::{drain, is_ready};
@@ -9,20 +10,23 @@ use std::alloc::{AllocError, Global};
 use std::thread::Threads;
 use waves::drain_by;
 
-/// The tables, and the objects of each.
-pub const TABLES: u32 = 64;
+/// The tables.
+pub const TABLES: u32 = 16;
 
+/// The objects of each, as many as those that they refer to.
 pub const PLACES: u32 = 256;
 
 /// The words of a page.
 const WORDS: u32 = 1024;
 
-/// Registers: the first table, another, and an object.
+/// Registers: the first table, another, an object of it, and the one that this refers to.
 const FIRST: u32 = 0;
 
 const TABLE: u32 = 1;
 
 const OBJECT: u32 = 2;
+
+const LAST: u32 = 3;
 
 /// A heap that is marked by one thread or on several. The calls have no contracts.
 pub trait Marked: Mutating + Stepping {
@@ -80,11 +84,11 @@ pub fn waved<R: Threads + Sync>(rt: &R, heap: &mut Heap, most: u64, threads: u32
     }
 }
 
-/// Returns the configuration: objects of one reference, and tables of 64 and of 256.
+/// Returns the configuration: objects of one reference, and tables of 16 and of 256.
 pub fn config(alloc: Global) -> Result<Config, AllocError> {
     let layouts = vec![in alloc;
         Layout { refs: 1, nums: 0 },
-        Layout { refs: 64, nums: 0 },
+        Layout { refs: 16, nums: 0 },
         Layout { refs: 256, nums: 0 },
     ]?;
     Ok(Config::new(WORDS, 128, Layouts::new(layouts)))
@@ -103,12 +107,14 @@ fn make(heap: &mut impl Marked, target: u32, layout: u32) -> Result<(), Refusal>
     Ok(())
 }
 
-/// Makes a table of objects that refer to the first table.
+/// Makes a table of objects, and the objects that they refer to.
 fn fill_table(heap: &mut impl Marked) -> Result<(), Refusal> {
     make(heap, TABLE, 2)?;
     for place in 0..PLACES {
+        make(heap, LAST, 0)?;
+        heap.store(0, LAST, 0, FIRST)?;
         make(heap, OBJECT, 0)?;
-        heap.store(0, OBJECT, 0, FIRST)?;
+        heap.store(0, OBJECT, 0, LAST)?;
         heap.store(0, TABLE, place, OBJECT)?;
     }
     Ok(())
@@ -122,7 +128,7 @@ pub fn fill(heap: &mut impl Marked) -> Result<(), Refusal> {
         heap.store(0, FIRST, place, TABLE)?;
     }
     heap.store_global(0, 0, FIRST)?;
-    for register in 0..3 {
+    for register in 0..4 {
         heap.clear_register(0, register)?;
     }
     Ok(())

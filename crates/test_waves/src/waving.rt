@@ -7,9 +7,14 @@ use std::process::Abort;
 use std::test::Fail;
 use std::thread::Threads;
 
+/// How many objects the tables have, and as many others there are to which these refer.
+fn level() -> u64 {
+    u64::from(TABLES) * u64::from(PLACES)
+}
+
 /// How many objects there are.
 fn all() -> u64 {
-    1 + u64::from(TABLES) + u64::from(TABLES) * u64::from(PLACES)
+    1 + u64::from(TABLES) + 2 * level()
 }
 
 /// Returns how many bits are set in all bitmaps.
@@ -60,29 +65,21 @@ fn four_threads_mark_as_one(rt: HostRuntime) -> Result<(), Fail> {
     marks(&rt, one, other, 4)
 }
 
-#[test]
-fn a_wave_of_one_part(rt: HostRuntime) -> Result<(), Fail> {
-    let one = Heap::new(rt.alloc(), config(rt.alloc())?)?;
-    let other = Heap::new(rt.alloc(), config(rt.alloc())?)?;
-    marks(&rt, one, other, 1)
-}
-
-/// A drain that is bounded stops after a number of objects, and goes on later.
-fn stops<R: Abort + Threads + Sync>(rt: &R, mut heap: impl Marked + Drop) -> Result<(), Fail> {
+/// A drain scans the objects of the tables at once: those that they refer to are grey then, and no other object is. A
+/// drain by one thread would have scanned half of either. A later drain scans the rest.
+fn levels<R: Abort + Threads + Sync>(rt: &R, mut heap: impl Marked + Drop) -> Result<(), Fail> {
     fill(&mut heap)?;
     heap.begin()?;
-    same(rt, waved(rt, heap.heap_mut(), 5000, 3), 5000);
-    same(
-        rt,
-        waved(rt, heap.heap_mut(), u64::MAX, 3),
-        all().saturating_sub(5000),
-    );
+    let most = 1 + u64::from(TABLES) + level();
+    same(rt, waved(rt, heap.heap_mut(), most, 3), most);
+    same(rt, set_in(heap.look().todo().rows()), level());
+    same(rt, waved(rt, heap.heap_mut(), u64::MAX, 3), level());
     same(rt, waved(rt, heap.heap_mut(), u64::MAX, 3), 0);
     Ok(())
 }
 
 #[test]
-fn a_bounded_drain_goes_on(rt: HostRuntime) -> Result<(), Fail> {
+fn objects_are_scanned_at_once(rt: HostRuntime) -> Result<(), Fail> {
     let heap = Heap::new(rt.alloc(), config(rt.alloc())?)?;
-    stops(&rt, heap)
+    levels(&rt, heap)
 }

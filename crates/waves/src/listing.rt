@@ -30,7 +30,11 @@ fn with_page(extent: Extent, index: usize, objects: usize) -> Extent {
     }
     Extent {
         objects: extent.objects.saturating_add(objects as u64),
-        first: if extent.objects == 0 { index } else { extent.first },
+        first: if extent.objects == 0 {
+            index
+        } else {
+            extent.first
+        },
         end: next,
         used: next,
     }
@@ -55,7 +59,12 @@ pub(crate) fn extent_of(heap: &Heap) -> Extent {
 }
 
 /// Adds the addresses of a page's grey objects to a list. Fails only if out of memory.
-fn list_page(heap: &Heap, page: u32, row: &Row, list: &mut Vec<Addr, Global>) -> Result<(), AllocError>
+fn list_page(
+    heap: &Heap,
+    page: u32,
+    row: &Row,
+    list: &mut Vec<Addr, Global>,
+) -> Result<(), AllocError>
     requires low { 0 < page }
     requires high { page ≤ heap.now.store.count }
 {
@@ -72,7 +81,11 @@ fn list_page(heap: &Heap, page: u32, row: &Row, list: &mut Vec<Addr, Global>) ->
 }
 
 /// Lists the addresses of the grey objects of pages before an index, from the lowest on. Fails only if out of memory.
-pub(crate) fn list_grey(heap: &Heap, end: usize, list: &mut Vec<Addr, Global>) -> Result<(), AllocError> {
+pub(crate) fn list_grey(
+    heap: &Heap,
+    end: usize,
+    list: &mut Vec<Addr, Global>,
+) -> Result<(), AllocError> {
     list.clear();
     let pages = heap.memory().page_count();
     for index in 0..end {

@@ -156,13 +156,7 @@ fn try_wave<R: Threads + Sync>(
 
 /// Scans all objects that are grey now, one after the other on this thread, so that those which they mark are grey
 /// afterwards. Returns how many it scanned: none if they are more than `most`, or if out of memory for their list.
-fn try_round(
-    heap: &mut Heap,
-    worker: u32,
-    most: u64,
-    extent: Extent,
-    course: &mut Course,
-) -> u64
+fn try_round(heap: &mut Heap, worker: u32, most: u64, extent: Extent, course: &mut Course) -> u64
     requires { IsReady heap.old worker }
     ensures done { ObjectsDone heap.old worker result heap.new }
     ensures few { result ≤ most }

@@ -1,4 +1,4 @@
-use Rattle.std.proofs.Common.{◌≡◌, ◌+◌, Bool, arith, sym, subst}
+use Rattle.std.proofs.Common.{arith, sym, subst}
 use Rattle.drains.specs.Drains.{ObjectsDone}
 use Rattle.drains.specs.Scans.{IsScanned}
 use Rattle.drains.proofs.Scans.{listed_more, listed_left}

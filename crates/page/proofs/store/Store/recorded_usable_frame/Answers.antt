@@ -1,4 +1,4 @@
-use Rattle.std.proofs.Common.{◌∙◌, ◌/◌, ◌+◌, ◌<◌, ◌≤◌, length, ap, arith, subst, sym}
+use Rattle.std.proofs.Common.{◌∙◌, ◌/◌, ◌<◌, ◌≤◌, length, ap, arith, subst, sym}
 use Rattle.page.specs.Usable.{usable_frame}
 use Rattle.page.specs.Views.{store_of}
 use Rattle.model.specs.Stores.{StoreState}

@@ -1,4 +1,4 @@
-use Rattle.std.proofs.Common.{◌≡◌, ◌/◌, List, ℕ, Bor, Some, sym, subst}
+use Rattle.std.proofs.Common.{◌≡◌, ◌/◌, Some, sym, subst}
 use Rattle.std.specs.Prelude.{IfSome}
 use Rattle.model.specs.Stores.{StoreState, words_at}
 use Rattle.page.specs.Usable.{usable_frame}
