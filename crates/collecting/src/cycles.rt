@@ -8,7 +8,7 @@ ghost use Rattle.collecting.specs.Collections.{EndsDueMark, MarksWhole};
 use crate::collecting::Collected;
 use crate::leftovers::settle;
 use crate::marking::Marking;
-use choosing::{Choice, choose_measured};
+use choosing::Choice;
 use managed::ManagedHeap;
 use model::Refusal;
 use std::alloc::Global;
@@ -72,16 +72,18 @@ fn empty_choice(heap: &mut ManagedHeap, live: u64, choice: Choice) -> Result<Col
 }
 
 /// Chooses pages and empties them, after a mark that found `live` objects.
-fn empty_after(
+fn empty_after<M: Marking>(
     heap: &mut ManagedHeap,
     alloc: Global,
     percent: u32,
     live: u64,
+    by: &M,
 ) -> Result<Collected, Refusal>
+    requires { M.may_mark by.now }
     ensures ends { EndsBehind percent live heap.old result heap.new }
     ensures scrubbed { needs_no_scrub heap.old.phase ≡ true → IfOk result (λ collected. AreScrubbed heap.new) }
 {
-    match choose_measured(alloc, heap.heap(), percent) {
+    match by.choose(alloc, heap.heap(), percent) {
         Ok(choice) => empty_choice(heap, live, choice),
         Err(_) => Err(Refusal::Memory),
     }
@@ -99,7 +101,7 @@ fn run_cycle<M: Marking>(
     ensures scrubbed { IfOk result (λ collected. AreScrubbed heap.new) }
 {
     match mark_due(heap, by) {
-        Ok(live) => empty_after(heap, alloc, percent, live),
+        Ok(live) => empty_after(heap, alloc, percent, live, by),
         Err(refusal) => Err(refusal),
     }
 }

@@ -1,17 +1,21 @@
-//! Who runs a mark: one thread, or several.
+//! Who runs a mark, and measures pages after it: one thread, or several.
 
-ghost use Rattle.std.specs.Prelude.{⊤};
+ghost use Rattle.std.specs.Prelude.{◌≡◌, ⊤, IfOk};
 ghost use Rattle.std.specs.Thread.{IsSync};
+ghost use Rattle.choosing.specs.Choices.{IsChoice, all_words, words_on};
 ghost use Rattle.managed.specs.Collecting.{EndsMark, EndsRest};
 ghost use Rattle.collecting.specs.Collections.{WORKER, Collects};
 
+use choosing::{Choice, choose_measured, choose_measured_by};
+use heap::Heap;
 use managed::ManagedHeap;
 use model::Refusal;
+use std::alloc::{AllocError, Global};
 use std::thread::Threads;
 
-/// Runs marks of a heap. Each returns how many objects live.
+/// Runs marks of a heap, and measures its pages. A mark returns how many objects live.
 pub(crate) trait Marking {
-    // Holds if marks may be run: threads may share what they need.
+    // Holds if marks may be run, and pages measured: threads may share what they need.
     ghost may_mark: { Self → Type 0 } = { λ _. ⊤ };
 
     /// Runs a complete mark, as `ManagedHeap::mark` does.
@@ -25,9 +29,16 @@ pub(crate) trait Marking {
         requires { may_mark self.now }
         ensures goes { Collects heap.old heap.new }
         ensures ends { EndsRest WORKER heap.old result heap.new };
+
+    /// Chooses pages by a percentage, as `choose_measured` does. Fails only if out of memory.
+    fn choose(&self, alloc: Global, heap: &Heap, percent: u32) -> Result<Choice, AllocError>
+        requires { may_mark self.now }
+        ensures pages { IfOk result (λ choice. IsChoice heap.now percent choice.pages.items) }
+        ensures words { IfOk result (λ choice. choice.words ≡ words_on heap.now choice.pages.items) }
+        ensures live { IfOk result (λ choice. choice.live_words ≡ all_words heap.now) };
 }
 
-/// Marks whose objects this thread scans.
+/// Marks whose objects this thread scans; it also measures pages alone.
 #[derive(Clone, Copy, Debug)]
 pub(crate) struct Alone;
 
@@ -39,9 +50,13 @@ impl Marking for Alone {
     fn finish(&self, heap: &mut ManagedHeap) -> Result<u64, Refusal> {
         heap.finish_mark(0)
     }
+
+    fn choose(&self, alloc: Global, heap: &Heap, percent: u32) -> Result<Choice, AllocError> {
+        choose_measured(alloc, heap, percent)
+    }
 }
 
-/// Marks whose objects a number of threads scan.
+/// Marks whose objects a number of threads scan; they also measure pages.
 #[derive(Drop)]
 pub(crate) struct OnThreads<'a, R> {
     pub rt: &'a R,
@@ -57,5 +72,9 @@ impl<'a, R: Threads + Sync> Marking for OnThreads<'a, R> {
 
     fn finish(&self, heap: &mut ManagedHeap) -> Result<u64, Refusal> {
         heap.finish_mark_by(self.rt, 0, self.threads)
+    }
+
+    fn choose(&self, alloc: Global, heap: &Heap, percent: u32) -> Result<Choice, AllocError> {
+        choose_measured_by(self.rt, alloc, heap, percent, self.threads)
     }
 }

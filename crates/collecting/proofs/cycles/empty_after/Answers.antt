@@ -5,7 +5,7 @@ use Rattle.collecting.proofs.Collections.{behind_ends, behind_lacks}
 use Rattle.collecting.proofs.cycles.empty_after.Goals as goal
 
 pub returns-in-Ok-clause-ends : goal.returns-in-Ok-clause-ends
-returns-in-Ok-clause-ends c =
+returns-in-Ok-clause-ends g c =
     let choice = c.in-Ok.choice in
     behind_ends c.args.percent c.args.live choice.live_words choice.words c.args.heap.now c.empty_choice.new.heap
     choice.pages.items c.empty_choice.result
@@ -15,4 +15,4 @@ returns-in-Ok-clause-ends c =
     c.empty_choice.ensures.ends
 
 pub returns-in-Err-clause-ends : goal.returns-in-Err-clause-ends
-returns-in-Err-clause-ends c = behind_lacks c.args.percent c.args.live c.args.heap.now
+returns-in-Err-clause-ends g c = behind_lacks c.args.percent c.args.live c.args.heap.now
