@@ -33,7 +33,7 @@ use Rattle.collecting.specs.declared.collecting.Collected.{Collected}
 use Rattle.collecting.specs.Collections.{Then, SettlesAndMarks, MarksAndEmpties, MarksWhole, EndsCollecting}
 use Rattle.collecting.specs.Collections.{WORKER, Collects, EndsLeft, EndsLeftPages, EndsSettling, EndsDue, has_from}
 use Rattle.collecting.specs.Collections.{EndsDueMark, EndsChosen, EndsChoice}
-use Rattle.collecting.specs.Collections.{EndsBehind, EndsCycle, CollectsWhole}
+use Rattle.collecting.specs.Collections.{ChoosesAndEmpties, EndsCycle, CollectsWhole}
 
 pub none : (h : HeapState) → Collects h h
 none h = goes_none (IsCollecting WORKER) h
@@ -186,23 +186,23 @@ pub choice_stops : (live live_words copied : ℕ) (h g : HeapState) (ns : List �
     → r ≡ Err e → EndsChosen h ns r g → EndsChoice live live_words copied h ns (Err e) g
 choice_stops live live_words copied h g ns r e is b = subst (λ (x : Result ℕ Refusal). EndsChosen h ns x g) is b
 
-pub behind_ends : (percent live live_words copied : ℕ) (h g : HeapState) (ns : List ℕ) (r : Result Collected Refusal)
+pub sparse_ends : (percent live live_words copied : ℕ) (h g : HeapState) (ns : List ℕ) (r : Result Collected Refusal)
     → IsChoice h percent ns → copied ≡ words_on h ns → live_words ≡ all_words h
-    → EndsChoice live live_words copied h ns r g → EndsBehind percent live h r g
-behind_ends percent live live_words copied h g ns (Ok r) c moved all b =
+    → EndsChoice live live_words copied h ns r g → ChoosesAndEmpties percent live h r g
+sparse_ends percent live live_words copied h g ns (Ok r) c moved all b =
     (b.0, b.3.0, (ns, c, b.3.1, b.3.2, b.2 ∙ moved, b.1 ∙ all))
-behind_ends percent live live_words copied h g ns (Err e) c moved all b = (b.0, inr (ns, c, b.1))
+sparse_ends percent live live_words copied h g ns (Err e) c moved all b = (b.0, inr (ns, c, b.1))
 
-pub behind_lacks : (percent live : ℕ) (h : HeapState) → EndsBehind percent live h (Err refusals.Memory) h
-behind_lacks percent live h = (none h, inl (refl, refl))
+pub sparse_lacks : (percent live : ℕ) (h : HeapState) → ChoosesAndEmpties percent live h (Err refusals.Memory) h
+sparse_lacks percent live h = (none h, inl (refl, refl))
 
 -- ---- all of it
 
 -- the steps of each
-behind_goes : (percent live : ℕ) (h g : HeapState) (r : Result Collected Refusal) → EndsBehind percent live h r g
+sparse_goes : (percent live : ℕ) (h g : HeapState) (r : Result Collected Refusal) → ChoosesAndEmpties percent live h r g
     → Collects h g
-behind_goes percent live h g (Ok x) k = k.1
-behind_goes percent live h g (Err e) k = k.0
+sparse_goes percent live h g (Ok x) k = k.1
+sparse_goes percent live h g (Err e) k = k.0
 
 settling_goes : (h g : HeapState) (r : Result Unit Refusal) → EndsSettling h r g → Collects h g
 settling_goes h g (Ok u) k = k.0
@@ -219,15 +219,15 @@ module _ {A B : Type 0} (P : HeapState → Result A Refusal → HeapState → Ty
   then_stops g e is a = inl (subst (λ (z : Result A Refusal). P h z g) is a)
 
 pub cycle_then : (percent live : ℕ) (h m g : HeapState) (d : Result ℕ Refusal) (r : Result Collected Refusal)
-    → d ≡ Ok live → Collects h m → EndsDueMark h d m → EndsBehind percent live m r g → EndsCycle percent h r g
+    → d ≡ Ok live → Collects h m → EndsDueMark h d m → ChoosesAndEmpties percent live m r g → EndsCycle percent h r g
 cycle_then percent live h m g d r is a b k = (
-  and_then h m g a (behind_goes percent live m g r k),
-  then_more EndsDueMark (EndsBehind percent) h d m g live r is b k,
+  and_then h m g a (sparse_goes percent live m g r k),
+  then_more EndsDueMark (ChoosesAndEmpties percent) h d m g live r is b k,
 )
 
 pub cycle_stops : (percent : ℕ) (h g : HeapState) (d : Result ℕ Refusal) (e : Refusal) → d ≡ Err e → Collects h g
     → EndsDueMark h d g → EndsCycle percent h (Err e) g
-cycle_stops percent h g d e is a b = (a, then_stops EndsDueMark (EndsBehind percent) h d g e is b)
+cycle_stops percent h g d e is a b = (a, then_stops EndsDueMark (ChoosesAndEmpties percent) h d g e is b)
 
 pub whole_then : (percent : ℕ) (h m g : HeapState) (s : Result Unit Refusal) (u : Unit {0})
     (r : Result Collected Refusal) → s ≡ Ok u → EndsSettling h s m → EndsCycle percent m r g

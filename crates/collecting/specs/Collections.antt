@@ -116,13 +116,13 @@ StopsSparse percent h e g =
     ⊎ ((ns : List ℕ) × IsChoice h percent ns × EndsEmptying WORKER h ns (Err e) g)
 
 -- how the choice and the emptying of pages ended after a mark that found `live` objects
-abbrev pub EndsBehind : ℕ → ℕ → HeapState → Result Collected Refusal → HeapState → Type 0
-EndsBehind percent live h (Ok r) g = (r.live ≡ live) × Collects h g × EmptiesSparse percent h r g
-EndsBehind percent live h (Err e) g = Collects h g × StopsSparse percent h e g
+abbrev pub ChoosesAndEmpties : ℕ → ℕ → HeapState → Result Collected Refusal → HeapState → Type 0
+ChoosesAndEmpties percent live h (Ok r) g = (r.live ≡ live) × Collects h g × EmptiesSparse percent h r g
+ChoosesAndEmpties percent live h (Err e) g = Collects h g × StopsSparse percent h e g
 
 -- a mark, and the choice and the emptying of pages after it
 abbrev pub MarksAndEmpties : ℕ → HeapState → Result Collected Refusal → HeapState → Type 0
-MarksAndEmpties percent h result g = Then EndsDueMark (EndsBehind percent) h result g
+MarksAndEmpties percent h result g = Then EndsDueMark (ChoosesAndEmpties percent) h result g
 
 -- its steps, and how it ended
 abbrev pub EndsCycle : ℕ → HeapState → Result Collected Refusal → HeapState → Type 0

@@ -2,8 +2,8 @@
 
 ghost use Rattle.std.specs.Prelude.{◌≡◌, IfOk, true};
 ghost use Rattle.managed.specs.Scrubbing.{AreScrubbed, needs_no_scrub};
-ghost use Rattle.collecting.specs.Collections.{Collects, CollectsWhole, EndsBehind, EndsChoice, EndsChosen, EndsCycle};
-ghost use Rattle.collecting.specs.Collections.{EndsDueMark, MarksWhole};
+ghost use Rattle.collecting.specs.Collections.{ChoosesAndEmpties, Collects, CollectsWhole, EndsChoice, EndsChosen};
+ghost use Rattle.collecting.specs.Collections.{EndsCycle, EndsDueMark, MarksWhole};
 
 use crate::collecting::Collected;
 use crate::leftovers::settle;
@@ -80,7 +80,7 @@ fn empty_after<M: Marking>(
     by: &M,
 ) -> Result<Collected, Refusal>
     requires { M.may_mark by.now }
-    ensures ends { EndsBehind percent live heap.old result heap.new }
+    ensures ends { ChoosesAndEmpties percent live heap.old result heap.new }
     ensures scrubbed { needs_no_scrub heap.old.phase ≡ true → IfOk result (λ collected. AreScrubbed heap.new) }
 {
     match by.choose(alloc, heap.heap(), percent) {
