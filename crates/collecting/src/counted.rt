@@ -18,6 +18,7 @@ ghost use Rattle.collecting.specs.declared.counting.Cause.TheVariants as causes;
 
 use crate::collecting::{Collected, Holding};
 use crate::counting::{Cause, Counters, collect_counted, part_counted};
+use crate::marking::Alone;
 use crate::pacing::{lacks_buffer, pace_and_make_counted};
 use crate::parts::Parts;
 use crate::policy::Policy;
@@ -214,7 +215,7 @@ impl Counting for ManagedHeap {
         ensures scrubbed { IfOk result (λ collected. AreScrubbed self.new) }
         ensures counts { counters.new ≡ seen_in_use (in_use self.new) (counted causes.Call result counters.old) }
     {
-        let result = collect_counted(self, alloc, counters, Cause::Call, percent);
+        let result = collect_counted(self, alloc, counters, Cause::Call, percent, &Alone);
         counters.see(self.heap());
         result
     }

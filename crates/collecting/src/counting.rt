@@ -13,7 +13,7 @@ ghost use Rattle.collecting.specs.Targets.{in_use};
 use crate::collecting::Collected;
 use crate::cycles::collect_whole;
 use crate::low::in_use;
-use crate::marking::Alone;
+use crate::marking::Marking;
 use crate::parts::{Parts, collect_some};
 use heap::Heap;
 use managed::ManagedHeap;
@@ -157,19 +157,21 @@ impl Counters {
 }
 
 /// Does a complete collection, and counts it.
-pub(crate) fn collect_counted(
+pub(crate) fn collect_counted<M: Marking>(
     heap: &mut ManagedHeap,
     alloc: Global,
     counters: &mut Counters,
     cause: Cause,
     percent: u32,
+    by: &M,
 ) -> Result<Collected, Refusal>
+    requires { M.may_mark by.now }
     ensures ends { CollectsWhole percent heap.old result heap.new }
     ensures scrubbed { IfOk result (λ collected. AreScrubbed heap.new) }
     ensures counts { counters.new ≡ counted cause result counters.old }
 {
     counters.begin(cause);
-    let result = collect_whole(heap, alloc, percent, &Alone);
+    let result = collect_whole(heap, alloc, percent, by);
     counters.end(&result);
     result
 }

@@ -34,4 +34,4 @@ pub use parts::Parts;
 pub use policy::{Policy, PolicyFault};
 pub use seeing::Object;
 pub use target::Target;
-pub use threading::collect_by;
+pub use threading::{collect_by, collect_counted_by};

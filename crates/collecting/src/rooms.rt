@@ -72,7 +72,7 @@ fn collect_and_take(
     ensures refills { RefillsWhole thread policy.words policy.percent heap.old result heap.new }
     ensures counts { HasCounted cause policy.percent heap.old counters.old counters.new }
 {
-    match collect_counted(heap, alloc, counters, cause, policy.percent) {
+    match collect_counted(heap, alloc, counters, cause, policy.percent, &Alone) {
         Ok(_) => take_or_mark(heap, policy, thread),
         Err(refusal) => Err(refusal),
     }

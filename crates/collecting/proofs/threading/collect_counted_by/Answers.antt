@@ -1,0 +1,11 @@
+use Rattle.collecting.proofs.Collections.{unseen}
+use Rattle.collecting.proofs.NotRoom.{collecting_not}
+use Rattle.collecting.proofs.threading.collect_counted_by.Goals as goal
+
+pub returns-clause-stands : goal.returns-clause-stands
+returns-clause-stands g c = unseen c.args.heap.now c.collect_counted-result.new.heap
+    c.collect_counted-result.ensures.ends.0
+
+pub returns-clause-room : goal.returns-clause-room
+returns-clause-room g c = collecting_not c.args.percent c.args.heap.now c.collect_counted-result.result
+    c.collect_counted-result.new.heap c.collect_counted-result.ensures.ends.1
