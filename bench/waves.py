@@ -24,8 +24,8 @@ NAMES = {"waves": "mark", "firsts": "first collection", "sparse": "half-dead gra
 THREADS = [0, 2, 4]
 
 # Marks or heaps of a run, and runs.
-TIMES = {"waves": 9, "firsts": 3}
-RUNS = 4
+TIMES = {"waves": 7, "firsts": 3}
+RUNS = 3
 
 
 def took(program, work, threads):

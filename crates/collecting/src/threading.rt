@@ -65,7 +65,7 @@ fn collect_whole_by<R: Threads + Sync>(
 }
 
 /// Does a complete collection as `Holding::collect` does, with the same `percent`, result and errors. Its mark may scan
-/// on `threads` threads; with 0, or while few objects are grey, this thread scans alone.
+/// on `threads` threads; with fewer than two, or while few objects are grey, this thread scans alone.
 pub fn collect_by<R: Threads + Sync>(
     rt: &R,
     heap: &mut ManagedHeap,

@@ -241,10 +241,11 @@ fn scan_by<R: Threads + Sync>(rt: &R, heap: &mut Heap, worker: u32, most: u64, t
 
 /// Drains the rest of a mark by a worker that is ready, as `drain` does, with the same result for the heap, on a
 /// number of threads: while many objects are grey, all of them are scanned at once, in waves. What they refer to is
-/// read on threads, each for some of the pages; references are written on this thread; and objects are marked on
-/// threads, each for some of the pages.
+/// read on threads, each for some of the pages; references are written on threads, each in some of the frames; and
+/// objects are marked on threads, each for some of the pages.
 ///
-/// If memory runs out for what a wave has read, or if a thread can't be started, this thread does the work.
+/// With fewer than two threads, if memory runs out for what a wave has read, or if a thread can't be started, this
+/// thread does the work.
 pub fn drain_by<R: Threads + Sync>(
     rt: &R,
     heap: &mut Heap,
