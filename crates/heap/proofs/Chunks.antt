@@ -145,7 +145,8 @@ in_chunk start offset i arg after es x y d at l old e new =
     sym new ∙ ap (λ us. get_or us offset d) e ∙ get_edited start arg es offset d l
     ∙ (λ j. after_all (at j) es (old j))
 
-empty_at : {Y : Type 0} (rows : List (List Y)) (k : ℕ) (d : List Y) → AreEmpty rows → k < length rows → get_or rows k d ≡ []
+empty_at : {Y : Type 0} (rows : List (List Y)) (k : ℕ) (d : List Y) → AreEmpty rows → k < length rows
+    → get_or rows k d ≡ []
 empty_at [] k d e l = absurd (omega (arith, l))
 empty_at (r ∷ rs) zero d e l = e.0
 empty_at (r ∷ rs) (suc k) d e l = empty_at rs k d e.1 (omega (arith, l))

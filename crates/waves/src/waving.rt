@@ -111,9 +111,9 @@ fn fits(first: usize, count: usize, size: usize) -> bool
     }
 }
 
-/// Scans grey objects of `size` pages for each of some parts at once, from the page of an index on, the parts on threads
-/// of their own, and returns how many: none if they are more than `most`, or if a worker has an object. Nothing is left
-/// to be copied.
+/// Scans grey objects of `size` pages for each of some parts at once, from the page of an index on, each part on a
+/// thread of its own. Returns how many: none if they are more than `most`, or if a worker has an object. Nothing is
+/// left to be copied.
 fn wave<R: Threads + Sync>(
     rt: &R,
     heap: &mut Heap,
@@ -141,8 +141,8 @@ fn wave<R: Threads + Sync>(
     found
 }
 
-/// Does a wave, and returns how many objects it scanned. If what it has marked lies in order, as in trees and lists, one
-/// thread is as fast, and a long portion is next.
+/// Does a wave, and returns how many objects it scanned. If what it has marked lies in order, as in trees and lists,
+/// one thread is as fast, and a long portion is next.
 fn try_wave<R: Threads + Sync>(
     rt: &R,
     heap: &mut Heap,
@@ -176,8 +176,8 @@ fn try_round(heap: &mut Heap, worker: u32, most: u64, extent: Extent, course: &m
     scan_listed(heap, worker, &course.grey)
 }
 
-/// Scans objects at once: in a wave, if many are grey, or in a round on this thread, while more and more are. Returns how
-/// many: none if neither is worth it.
+/// Scans objects at once: in a wave, if many are grey, or in a round on this thread, while more and more are. Returns
+/// how many: none if neither is worth it.
 fn scan_at_once<R: Threads + Sync>(
     rt: &R,
     heap: &mut Heap,
