@@ -1,10 +1,10 @@
 #!/usr/bin/env python3
 """Times marks that scan on threads, and first collections whose marks do.
 
-The program is that of the crate `bench_collections`. A figure is the median of several marks, or of first collections of
-as many heaps, by a clock: the best of several runs, which take turns. 'over one thread' is how many times faster it is
-than the same by a drain of one thread. If other programs use the processors too, `chrt -f 20` before the command keeps
-them away from threads.
+The program is that of the crate `bench_collections`. A figure is the median of several marks, or of first collections
+of as many heaps, by a clock: the best of several runs, which take turns. 'over one thread' is how many times faster it
+is than the same by a drain of one thread. If other programs use the processors too, `chrt -f 20` before the command
+keeps them away from threads.
 
 waves: a mark of objects that stay where they are, which are a graph without order, a forest of trees of 1,023 objects,
 a tree, or a list; and the first collection of a graph after each of whose objects a garbage one was made.
@@ -24,8 +24,8 @@ NAMES = {"waves": "mark", "firsts": "first collection", "sparse": "half-dead gra
 THREADS = [0, 2, 4]
 
 # Marks or heaps of a run, and runs.
-TIMES = {"waves": 9, "firsts": 3}
-RUNS = 4
+TIMES = {"waves": 7, "firsts": 3}
+RUNS = 3
 
 
 def took(program, work, threads):

@@ -1,6 +1,6 @@
 -- Lists that are edited chunk by chunk.
 use Rattle.std.proofs.Common.{◌≡◌, ◌≢◌, ◌⊎◌, inl, inr, ℕ, zero, suc, ◌+◌, ◌-◌, ◌≤◌, ◌<◌, Bool, true, false, List, [], ◌∷◌}
-use Rattle.std.proofs.Common.{length, drop, take, map, get_or, nat_le, nat_eq, ◌%◌, ◌/◌, ◌*◌, filter, cond, Option, Some, None, refl, sym, ◌∙◌, ap, arith, subst}
+use Rattle.std.proofs.Common.{length, drop, take, map, get_or, nat_le, nat_eq, ◌%◌, ◌/◌, ◌*◌, filter, cond, Option, Some, None, refl, sym, ◌∙◌, ap, arith}
 use Rattle.std.specs.List.{slice_get}
 use Rattle.std.specs.Prelude.{if◌then◌else◌, ◌==◌}
 use Rattle.std.proofs.Math.Nat.{mul-le-mul_right}
@@ -8,8 +8,7 @@ use Rattle.std.proofs.lemmas.Nat.{div-mul-add, div-add-mod'}
 use Rattle.std.proofs.Math.ListN.{length-set}
 use Rattle.std.proofs.lemmas.Bool.{cases_lt, cases_eq, true≢false}
 use Rattle.std.proofs.lemmas.Bool.Decides.{nat_tests}
-use Rattle.std.proofs.lemmas.List.{drop_more, drop_all, get_or-take, get_or-drop, length-take-le, length-drop}
-use Rattle.std.proofs.lemmas.Option.{slice_get_within, get_or_from_slice_get}
+use Rattle.std.proofs.lemmas.List.{get_or-take, get_or-drop, length-take-le, length-drop}
 use Rattle.refword.specs.Words.{bits_of}
 use Rattle.model.specs.States.{Reference, HeapState, change_at, change_found}
 use Rattle.model.specs.Bits.{put_bit, bit_at}
@@ -146,7 +145,8 @@ in_chunk start offset i arg after es x y d at l old e new =
     sym new ∙ ap (λ us. get_or us offset d) e ∙ get_edited start arg es offset d l
     ∙ (λ j. after_all (at j) es (old j))
 
-empty_at : {Y : Type 0} (rows : List (List Y)) (k : ℕ) (d : List Y) → AreEmpty rows → k < length rows → get_or rows k d ≡ []
+empty_at : {Y : Type 0} (rows : List (List Y)) (k : ℕ) (d : List Y) → AreEmpty rows → k < length rows
+    → get_or rows k d ≡ []
 empty_at [] k d e l = absurd (omega (arith, l))
 empty_at (r ∷ rs) zero d e l = e.0
 empty_at (r ∷ rs) (suc k) d e l = empty_at rs k d e.1 (omega (arith, l))

@@ -12,7 +12,7 @@ use std::thread::Threads;
 
 impl Mutator {
     /// Collects the heap, as `MutatorCalls::collect`. Its mark may scan on `threads` threads, which also measure pages;
-    /// with 0, or while few objects are to be scanned, this thread works alone.
+    /// with fewer than two, or while few objects are to be scanned, this thread works alone.
     pub fn collect_by<R: Threads + Sync>(
         &mut self,
         rt: &R,

@@ -16,6 +16,9 @@ pub const TABLES: u32 = 16;
 /// The objects of each, as many as those that they refer to.
 pub const PLACES: u32 = 256;
 
+/// The objects of all tables.
+pub const LEVEL: u64 = TABLES as u64 * PLACES as u64;
+
 /// The words of a page.
 const WORDS: u32 = 1024;
 

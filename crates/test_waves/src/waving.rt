@@ -1,20 +1,15 @@
 //! Marks of the same heap by one thread and on several.
 
 use crate::same::{same, same_at};
-use crate::tables::{Marked, PLACES, TABLES, config, fill, waved};
+use crate::tables::{LEVEL, Marked, TABLES, config, fill, waved};
 use heap::{Heap, Rows};
 use std::process::Abort;
 use std::test::Fail;
 use std::thread::Threads;
 
-/// How many objects the tables have, and as many others there are to which these refer.
-fn level() -> u64 {
-    u64::from(TABLES) * u64::from(PLACES)
-}
-
 /// How many objects there are.
 fn all() -> u64 {
-    1 + u64::from(TABLES) + 2 * level()
+    1 + u64::from(TABLES) + 2 * LEVEL
 }
 
 /// Returns how many bits are set in all bitmaps.
@@ -70,10 +65,10 @@ fn four_threads_mark_as_one(rt: HostRuntime) -> Result<(), Fail> {
 fn levels<R: Abort + Threads + Sync>(rt: &R, mut heap: impl Marked + Drop) -> Result<(), Fail> {
     fill(&mut heap)?;
     heap.begin()?;
-    let most = 1 + u64::from(TABLES) + level();
+    let most = 1 + u64::from(TABLES) + LEVEL;
     same(rt, waved(rt, heap.heap_mut(), most, 3), most);
-    same(rt, set_in(heap.look().todo().rows()), level());
-    same(rt, waved(rt, heap.heap_mut(), u64::MAX, 3), level());
+    same(rt, set_in(heap.look().todo().rows()), LEVEL);
+    same(rt, waved(rt, heap.heap_mut(), u64::MAX, 3), LEVEL);
     same(rt, waved(rt, heap.heap_mut(), u64::MAX, 3), 0);
     Ok(())
 }

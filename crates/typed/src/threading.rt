@@ -17,7 +17,7 @@ use std::thread::Threads;
 
 impl TypedHeap {
     /// Does a complete collection as `HeapCalls::collect`, whose mark may scan on `threads` threads, which also measure
-    /// the pages. With 0, or while few objects are to be scanned, this thread works alone.
+    /// the pages. With fewer than two, or while few objects are to be scanned, this thread works alone.
     pub fn collect_by<R: Threads + Sync>(
         &mut self,
         rt: &R,

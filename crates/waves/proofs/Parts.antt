@@ -68,7 +68,8 @@ parts_find h first size (f ∷ fs) k = (
 
 pub parts_found : (h : HeapState) (first size : ℕ) (fs : List Batch) → PartsFind h first size fs
     → PartsFound h (start_of h first) fs
-parts_found h first size [] k = record { to = start_of h first; rises = omega arith; marked = tt; words = refl; notes = refl }
+parts_found h first size [] k =
+    record { to = start_of h first; rises = omega arith; marked = tt; words = refl; notes = refl }
 parts_found h first size (f ∷ fs) k =
     let rest = parts_found h (first + size) size fs k.1 in
     record {

@@ -4,6 +4,7 @@
 mod applying;
 mod finding;
 mod listing;
+mod ordering;
 mod parting;
 mod waving;
 

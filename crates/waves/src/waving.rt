@@ -6,6 +6,7 @@ ghost use Rattle.drains.specs.Drains.{IsReady, IsDrained, ObjectsDone, NoneTodo,
 
 use crate::applying::apply_parts;
 use crate::listing::{Extent, extent_of, list_grey};
+use crate::ordering::are_scattered;
 use crate::parting::{count_parts, find_parts};
 use drains::{Portion, is_alone, mark_globals, scan_listed, scan_objects};
 use heap::{Batch, Groups, Heap};
@@ -43,6 +44,8 @@ struct Course {
     before: u64,
     /// How many objects are scanned in the next portion.
     portion: u64,
+    /// Whether that portion is next: what the last wave has marked lies in order.
+    is_orderly: bool,
 }
 
 impl Course {
@@ -55,6 +58,7 @@ impl Course {
             grey: Vec::new(alloc),
             before: 0,
             portion: PORTION,
+            is_orderly: false,
         }
     }
 
@@ -69,6 +73,7 @@ impl Course {
     {
         let portion = self.portion.max(1);
         self.before = 0;
+        self.is_orderly = false;
         self.portion = portion.saturating_mul(2).min(LONGEST);
         portion
     }
@@ -106,9 +111,9 @@ fn fits(first: usize, count: usize, size: usize) -> bool
     }
 }
 
-/// Scans grey objects of `size` pages for each of some parts at once, from the page of an index on, the parts on threads
-/// of their own, and returns how many: none if they are more than `most`, or if a worker has an object. Nothing is left
-/// to be copied.
+/// Scans grey objects of `size` pages for each of some parts at once, from the page of an index on, each part on a
+/// thread of its own. Returns how many: none if they are more than `most`, or if a worker has an object. Nothing is
+/// left to be copied.
 fn wave<R: Threads + Sync>(
     rt: &R,
     heap: &mut Heap,
@@ -136,7 +141,8 @@ fn wave<R: Threads + Sync>(
     found
 }
 
-/// Does a wave, and returns how many objects it scanned. What follows it begins anew to be widened.
+/// Does a wave, and returns how many objects it scanned. If what it has marked lies in order, as in trees and lists,
+/// one thread is as fast, and a long portion is next.
 fn try_wave<R: Threads + Sync>(
     rt: &R,
     heap: &mut Heap,
@@ -149,9 +155,11 @@ fn try_wave<R: Threads + Sync>(
     ensures done { ObjectsDone heap.old worker result heap.new }
     ensures few { result ≤ most }
 {
+    let found = wave(rt, heap, worker, most, extent, &mut course.parts);
     course.before = 0;
-    course.portion = PORTION;
-    wave(rt, heap, worker, most, extent, &mut course.parts)
+    course.is_orderly = !are_scattered(heap, &course.parts);
+    course.portion = if course.is_orderly { LONGEST } else { PORTION };
+    found
 }
 
 /// Scans all objects that are grey now, one after the other on this thread, so that those which they mark are grey
@@ -168,8 +176,8 @@ fn try_round(heap: &mut Heap, worker: u32, most: u64, extent: Extent, course: &m
     scan_listed(heap, worker, &course.grey)
 }
 
-/// Scans objects at once: in a wave, if many are grey, or in a round on this thread, while more and more are. Returns how
-/// many: none if neither is worth it.
+/// Scans objects at once: in a wave, if many are grey, or in a round on this thread, while more and more are. Returns
+/// how many: none if neither is worth it.
 fn scan_at_once<R: Threads + Sync>(
     rt: &R,
     heap: &mut Heap,
@@ -181,7 +189,7 @@ fn scan_at_once<R: Threads + Sync>(
     ensures done { ObjectsDone heap.old worker result heap.new }
     ensures few { result ≤ most }
 {
-    if course.parts.is_empty() {
+    if course.parts.is_empty() || course.is_orderly {
         return 0;
     }
     let extent = extent_of(heap);
@@ -241,10 +249,11 @@ fn scan_by<R: Threads + Sync>(rt: &R, heap: &mut Heap, worker: u32, most: u64, t
 
 /// Drains the rest of a mark by a worker that is ready, as `drain` does, with the same result for the heap, on a
 /// number of threads: while many objects are grey, all of them are scanned at once, in waves. What they refer to is
-/// read on threads, each for some of the pages; references are written on this thread; and objects are marked on
-/// threads, each for some of the pages.
+/// read on threads, each for some of the pages; references are written on threads, each in some of the frames; and
+/// objects are marked on threads, each for some of the pages.
 ///
-/// If memory runs out for what a wave has read, or if a thread can't be started, this thread does the work.
+/// With fewer than two threads, if memory runs out for what a wave has read, or if a thread can't be started, this
+/// thread does the work.
 pub fn drain_by<R: Threads + Sync>(
     rt: &R,
     heap: &mut Heap,

@@ -23,5 +23,5 @@ raw_note_by-requires-clause-sorted g c = λ lifetimes outlives.
     c.requires.sorted
 
 pub returns : goal.returns
-returns g c = parts_applied c.args.heap.now c.raw_write_by.new.self c.raw_note_by.new.self (start_of c.args.heap.now c.args.first)
-    c.args.parts.now c.requires.found c.raw_write_by.ensures c.raw_note_by.ensures
+returns g c = parts_applied c.args.heap.now c.raw_write_by.new.self c.raw_note_by.new.self
+    (start_of c.args.heap.now c.args.first) c.args.parts.now c.requires.found c.raw_write_by.ensures c.raw_note_by.ensures

@@ -1,6 +1,6 @@
 use Rattle.std.proofs.Common.{arith, ap}
 use Rattle.model.specs.Stores.{StoreState}
-use Rattle.waves.proofs.Pages.{free_here, page_next, page_last}
+use Rattle.waves.proofs.Pages.{free_here, page_last}
 use Rattle.waves.proofs.finding.find_on.Goals as goal
 
 pub returns-then-place-words : goal.returns-then-place-words

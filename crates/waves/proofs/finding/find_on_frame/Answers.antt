@@ -1,4 +1,4 @@
-use Rattle.std.proofs.Common.{arith, ◌+◌, ◌*◌, ◌∙◌, subst, ap, sym, ◌<◌}
+use Rattle.std.proofs.Common.{arith, ◌+◌, ◌*◌, ◌∙◌}
 use Rattle.model.specs.Bits.{bit_on}
 use Rattle.waves.proofs.Pages.{marked_here, place_is}
 use Rattle.waves.proofs.Adding.{more_none}

@@ -1,7 +1,4 @@
-use Rattle.std.proofs.Common.{ap, ◌∙◌, length}
-use Rattle.heap.specs.Batches.{batch_objects, batch_words, batch_notes}
 use Rattle.waves.specs.Finds.{start_of}
-use Rattle.heap.specs.Batches.{applied}
 use Rattle.waves.proofs.Waved.{parts_drain}
 use Rattle.waves.proofs.waving.wave.Goals as goal
 

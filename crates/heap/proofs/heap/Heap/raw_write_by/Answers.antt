@@ -1,7 +1,7 @@
 use Rattle.std.proofs.Common.{ap, ◌∙◌, subst, sym}
 use Rattle.model.specs.Holding.{IsHeap}
 use Rattle.model.specs.Stores.{StoreState}
-use Rattle.heap.specs.Batches.{batch_words, with_frames, with_writes}
+use Rattle.heap.specs.Batches.{batch_words, with_writes}
 use Rattle.heap.specs.Views.{heap_of}
 use Rattle.heap.proofs.Chunks.{writes_keep}
 use Rattle.heap.proofs.heap.Heap.raw_write_by.Goals as goal

@@ -1,5 +1,4 @@
 use Rattle.std.proofs.Common.{ℕ, List, map, ap, length, ◌∙◌}
-use Rattle.model.specs.Stores.{StoreState}
 use Rattle.heap.specs.Batches.{batch_words, write_edit}
 use Rattle.heap.proofs.Chunks.{rows_edited, in_chunk, write_keep, write_lengths, edited_lengths}
 use Rattle.heap.proofs.heap.writing_by.write_by.Goals as goal
