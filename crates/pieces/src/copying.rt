@@ -61,7 +61,7 @@ pub(crate) fn entry_by(source: &Source<'_>, index: usize, before: Option<u32>) -
 {
     match before {
         None => source.side.entry(index),
-        Some(offset) => source.side.entry_behind(index, offset),
+        Some(offset) => source.side.entry_after(index, offset),
     }
 }
 
