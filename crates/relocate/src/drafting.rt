@@ -34,12 +34,7 @@ fn sizes_on(alloc: Global, heap: &Heap, page: u32, row: &Row) -> Result<Sizes, A
 
 /// Returns the live objects of a page, by the page's number from 1 and its live bitmap, with the sizes that their headers
 /// say. Fails only if out of memory.
-fn objects_on(
-    alloc: Global,
-    heap: &Heap,
-    page: u32,
-    row: &Row,
-) -> Result<LiveObjects, AllocError>
+fn objects_on(alloc: Global, heap: &Heap, page: u32, row: &Row) -> Result<LiveObjects, AllocError>
     requires low { 0 < page }
     requires high { page ≤ heap.now.store.count }
     requires row { row.now ≡ of_page heap.now.live page }

@@ -19,7 +19,7 @@ objects_on-requires-clause-row c =
 pub returns-in-None : goal.returns-in-None
 returns-in-None c =
     let none = ap (λ rows. slice_get rows (c.args.page - 1)) (sym c.live.ensures) ∙ sym c.get.ensures
-        ∙ ap option_copied c.in-None.is in
+    ∙ ap option_copied c.in-None.is in
     live_on c.args.heap.now c.args.page c.empty.result _ _ c.empty.ensures
     (none_live c.args.heap.now c.args.page c.requires.low none)
     (none_sized c.args.heap.now c.args.page c.requires.low none)
