@@ -3,7 +3,7 @@ use Rattle.collecting.specs.Collections.{EndsCollecting}
 use Rattle.portions.specs.Portions.{MutatorState, ThenCrosses}
 use Rattle.portions.proofs.Collected.{collects_alone}
 use Rattle.portions.proofs.Others.{goes_on, kept_then, stands_kept, unseen_kept}
-use Rattle.portions.proofs.threading.Mutator.collect_by.Goals as goal
+use Rattle.portions.proofs.mutator.Mutator.collect_by.Goals as goal
 
 pub settle-requires : goal.settle-requires
 settle-requires g c = collects_alone c.self.inside.thread c.self.inside.heap c.collect_by-result.new.heap
