@@ -38,7 +38,7 @@ pub mod prelude;
 pub use choosing::choose;
 pub use collecting::{
     CallFault, Cause, Collected, Counters, Counting, Holding, Number, Object, Parts, Policy,
-    PolicyFault, Target, collect_by, wrong_number,
+    PolicyFault, Target, collect_by, collect_counted_by, wrong_number,
 };
 pub use cycle::{
     Actor, Answer, Book, Buffer, Entry, EntryRef, History, Mutating, PageList, Reply, Step, Trap,

@@ -11,7 +11,6 @@ mod pace;
 mod seats;
 mod settling;
 mod shared;
-mod threading;
 
 pub use calls::MutatorCalls;
 pub use managed::ManagedHeap;

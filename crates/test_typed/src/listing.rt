@@ -1,6 +1,7 @@
 //! A list that is kept while other objects are dropped, by complete collections and by collections in parts.
 
 use crate::same::same;
+use collecting::{Counters, collect_counted_by};
 use heap::Config;
 use layout::{Layout, Layouts};
 use model::Refusal;
@@ -116,13 +117,15 @@ fn collects_the_same<R: Abort + Threads + Sync>(rt: &R, alloc: Global) -> Result
     let (mut one, mut other) = (new_heap(alloc)?, new_heap(alloc)?);
     fill(alloc, &mut one, false)?;
     fill(alloc, &mut other, false)?;
+    let percent = one.policy().percent;
     let alone = one.collect(alloc)?;
-    let together = other.collect_by(rt, alloc, 2)?;
+    let (mut held, mut counters) = (other.into_managed(), Counters::new());
+    let together = collect_counted_by(rt, &mut held, alloc, &mut counters, percent, 2)?;
     same(rt, together.live, alone.live);
     same(rt, together.live_words, alone.live_words);
     same(rt, together.emptied, alone.emptied);
-    same(rt, other.counters().by_calls, 1);
-    same(rt, sum(&mut other), Ok(190));
+    same(rt, counters.by_calls, 1);
+    same(rt, sum(&mut TypedHeap::from_managed(alloc, held)), Ok(190));
     Ok(())
 }
 

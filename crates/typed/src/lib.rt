@@ -9,7 +9,6 @@ mod bulk;
 mod calls;
 mod numbers;
 mod owning;
-mod threading;
 
 pub use bulk::BulkCalls;
 pub use calls::HeapCalls;
