@@ -33,7 +33,6 @@ for named in \
     test_heap:protections::a_page_is_protected \
     test_heap:protections::pages_of_a_long_list \
     test_waves:waving::four_threads_mark_as_one \
-    test_typed:listing::a_collection_on_threads_does_the_same \
     test_library_oom:protections::four_pages_are_protected \
     test_library_oom:protections::four_pages_of_a_managed_heap \
     test_library_oom:preparing::parts_go_on \

@@ -1,14 +1,12 @@
 //! A list that is kept while other objects are dropped, by complete collections and by collections in parts.
 
 use crate::same::same;
-use collecting::{Counters, collect_counted_by};
 use heap::Config;
 use layout::{Layout, Layouts};
 use model::Refusal;
 use std::alloc::Global;
 use std::process::Abort;
 use std::test::Fail;
-use std::thread::Threads;
 use typed::{Datum, Field, HeapCalls, LayoutNumber, Register, Thread, TypedHeap};
 
 const ME: Thread = Thread(0);
@@ -110,26 +108,4 @@ fn complete_collections_are_counted(rt: HostRuntime) -> Result<(), Fail> {
 fn parts_are_counted(rt: HostRuntime) -> Result<(), Fail> {
     counts_parts(&rt, rt.alloc(), new_heap(rt.alloc())?)?;
     Ok(())
-}
-
-/// Collects a filled heap alone, and another on threads.
-fn collects_the_same<R: Abort + Threads + Sync>(rt: &R, alloc: Global) -> Result<(), Fail> {
-    let (mut one, mut other) = (new_heap(alloc)?, new_heap(alloc)?);
-    fill(alloc, &mut one, false)?;
-    fill(alloc, &mut other, false)?;
-    let percent = one.policy().percent;
-    let alone = one.collect(alloc)?;
-    let (mut held, mut counters) = (other.into_managed(), Counters::new());
-    let together = collect_counted_by(rt, &mut held, alloc, &mut counters, percent, 2)?;
-    same(rt, together.live, alone.live);
-    same(rt, together.live_words, alone.live_words);
-    same(rt, together.emptied, alone.emptied);
-    same(rt, counters.by_calls, 1);
-    same(rt, sum(&mut TypedHeap::from_managed(alloc, held)), Ok(190));
-    Ok(())
-}
-
-#[test]
-fn a_collection_on_threads_does_the_same(rt: HostRuntime) -> Result<(), Fail> {
-    collects_the_same(&rt, rt.alloc())
 }
