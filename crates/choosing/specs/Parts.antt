@@ -4,7 +4,7 @@ use Rattle.model.specs.States.{HeapState}
 use Rattle.choosing.specs.Choices.{AreOf}
 use Rattle.choosing.specs.declared.sparse.Found.{Found}
 
--- the number of the last page of the first `parts` parts, of `size` pages each, of a heap of so many pages
+-- the number of the last page of the first `parts` parts, of `size` pages each, of a heap of that number of pages
 abbrev pub end_of : ℕ → ℕ → ℕ → ℕ
 end_of pages size parts = min (parts * size) pages
 

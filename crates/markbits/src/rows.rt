@@ -1,5 +1,7 @@
 //! Bitmaps with one bit for each word of a page.
 
+mod kept;
+
 ghost use Rattle.std.specs.Prelude.{◌≡◌, ◌-◌, ◌*◌, ◌/◌, ◌<◌, ◌≤◌, ◌^◌, length, replicate, take, slice_get};
 ghost use Rattle.std.specs.Prelude.{slice_index_or, slice_set, Some, map, true, false, [], IfOk, IfSome, count_by};
 ghost use Rattle.std.specs.Option.{option_copied};
@@ -291,16 +293,6 @@ impl Model for Rows {
     ghost view = { λ r. r.rows.items };
 }
 
-/// Returns the index of the first bitmap from an index on that has no bits and keeps memory; after all if there is none.
-fn next_kept(rows: &[Row], from: usize) -> usize {
-    for index in from..rows.len() {
-        if rows[index].keeps() {
-            return index;
-        }
-    }
-    rows.len()
-}
-
 impl Rows {
     /// Returns `count` empty bitmaps: in a heap at most 1,048,575. Fails only if out of memory.
     pub fn new(alloc: Global, count: u32) -> Result<Rows, AllocError>
@@ -416,74 +408,6 @@ impl Rows {
         if index < self.rows.len() {
             self.rows[index] = row;
         }
-    }
-
-    /// Makes a bitmap, if it exists, one of no bits. If `most` isn't 0, it decreases, and the memory is kept until
-    /// another bitmap takes this one's place, or until `trim`.
-    pub fn give_up(&mut self, index: usize, most: &mut usize)
-        ensures { self.new ≡ slice_set self.old index [] }
-    {
-        if index < self.rows.len() {
-            let row = &mut self.rows[index];
-            row.give_up(most);
-            self.first_kept = self.first_kept.min(index);
-        }
-    }
-
-    /// Prepares memory for one more bitmap of `words` bits, which `blank` returns when no given up bitmap keeps any.
-    /// Fails only if out of memory.
-    pub fn prepare(&mut self, words: u32) -> Result<(), AllocError>
-        ensures { self.new ≡ self.old }
-    {
-        let alloc = *self.rows.allocator();
-        self.prepared.push(Row::new(alloc, words)?)?;
-        Ok(())
-    }
-
-    /// Returns a bitmap of `words` clear bits that was prepared, or a new one. Fails only if out of memory.
-    fn blank_prepared(&mut self, words: u32) -> Result<Row, AllocError>
-        ensures value { IfOk result (λ r. r ≡ replicate words false) }
-        ensures stays { self.new ≡ self.old }
-    {
-        if let Some(row) = self.prepared.pop() {
-            let mut row = row;
-            if row.len() == words as usize {
-                row.clear();
-                return Ok(row);
-            }
-        }
-        Row::new(*self.rows.allocator(), words)
-    }
-
-    /// Returns a bitmap of `words` clear bits: of memory that was kept when a bitmap was given up, that was prepared, or
-    /// new. Fails only if out of memory.
-    pub fn blank(&mut self, words: u32) -> Result<Row, AllocError>
-        ensures value { IfOk result (λ r. r ≡ replicate words false) }
-        ensures stays { self.new ≡ self.old }
-    {
-        let index = next_kept(&self.rows, self.first_kept);
-        self.first_kept = index;
-        if index < self.rows.len() {
-            let row = &mut self.rows[index];
-            if let Some(row) = row.reuse(words) {
-                return Ok(row);
-            }
-        }
-        self.blank_prepared(words)
-    }
-
-    /// Frees the memory that is kept of bitmaps that were given up, and of those that were prepared, except that of
-    /// the first `most`.
-    pub fn trim(&mut self, most: usize)
-        ensures { self.new ≡ self.old }
-    {
-        let count = self.rows.len();
-        let mut most = most;
-        for index in 0..count {
-            let row = &mut self.rows[index];
-            row.trim(&mut most);
-        }
-        self.prepared.truncate(most);
     }
 
     /// Clears all bitmaps. One without a set bit costs one test.
