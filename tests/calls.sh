@@ -32,6 +32,7 @@ for named in \
     test_heap:heaps::the_first_fault_is_told \
     test_heap:protections::a_page_is_protected \
     test_heap:protections::pages_of_a_long_list \
+    test_heap:choices::threads_choose_the_same \
     test_waves:waving::four_threads_mark_as_one \
     test_library_oom:protections::four_pages_are_protected \
     test_library_oom:protections::four_pages_of_a_managed_heap \

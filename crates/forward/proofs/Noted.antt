@@ -74,7 +74,7 @@ module _ (live : List Bool) (places : List ℕ) (copied : List Bool) where
     same_offset : (o : Option Forwarding) (f : Forwarding) → o ≡ Some f → offset_of o ≡ Some before → f.offset ≡ before
     same_offset o f a b = same_Some _ _ (sym (ap offset_of a) ∙ b)
 
-    -- so many are set below the place after its offset
+    -- as many are set below the place after its offset
     ranks_after : i - 1 < length places → rank_of live (before + 1) ≡ i
     ranks_after l =
         let (k, bit) = bit_numbered 0 live (i - 1) (omega (arith, l, is.many)) in

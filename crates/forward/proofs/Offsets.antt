@@ -1,8 +1,10 @@
 -- The offsets of set bits are found one after another, and the sizes of objects that begin at them.
 use Rattle.std.proofs.Common.{◌≡◌, ℕ, zero, suc, ◌+◌, ◌<◌, ◌≤◌, Bool, true, false, List, [], ◌∷◌, ◌++◌, map}
-use Rattle.std.proofs.Common.{drop, get_or, refl, sym, ◌∙◌, ap, ap₂, arith}
+use Rattle.std.proofs.Common.{drop, get_or, length, refl, sym, ◌∙◌, ap, ap₂, arith}
+use Rattle.std.specs.Prelude.{count_by}
 use Rattle.std.proofs.lemmas.Bool.{true≢false}
-use Rattle.std.proofs.lemmas.List.{append-nil, append_assoc}
+use Rattle.std.proofs.lemmas.List.{append-nil, append_assoc, length-map}
+use Rattle.forward.proofs.Ranked.{offsets_many}
 use Rattle.markbits.specs.Words.{IsFirstFrom}
 use Rattle.model.specs.Plans.{offsets_from}
 
@@ -47,6 +49,10 @@ left_next bits i k f =
 pub left_none : (bits : List Bool) (i : ℕ) → ((j : ℕ) → i ≤ j → get_or bits j false ≡ false)
     → offsets_from i (drop i bits) ≡ []
 left_none bits i none = offsets_none bits i i none
+
+-- there is a size for each set bit
+pub sized_many : (f : ℕ → ℕ) (row : List Bool) → length (map f (offsets_from 0 row)) ≡ count_by (λ b. b) row
+sized_many f row = length-map (offsets_from 0 row) f ∙ offsets_many 0 row
 
 -- the size of one more object is known
 pub sized_next : (f : ℕ → ℕ) (sizes more whole left rest : List ℕ) (k n : ℕ) → left ≡ k ∷ rest → n ≡ f k

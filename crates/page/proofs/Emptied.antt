@@ -77,7 +77,7 @@ take_short zero xs = omega arith
 take_short (suc m) [] = omega arith
 take_short (suc m) (x ∷ xs) = let l = take_short m xs in omega (arith, l)
 
--- the first elements that were changed, of a list in which nothing was set behind its end
+-- the first elements that were changed, of a list in which nothing was set past its end
 pub front_kept : {X : Type 0} (n m k : ℕ) (a b rest : List X) (x : X) → length a ≡ n → n ≤ m → m ≤ k
     → take n (set (take m ((a ++ b) ++ rest)) k x) ≡ a
 front_kept n m k a b rest x e l after =

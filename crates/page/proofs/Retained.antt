@@ -1,17 +1,9 @@
 -- Live objects that are kept with a frame.
-use Rattle.std.proofs.Common.{◌≡◌, ℕ, Bool, List, [], ◌∷◌, ◌++◌, ◌∙◌, Option, Some, None, ap, ap₂, length, sym, subst}
-use Rattle.std.specs.Prelude.{IfSome, count_by}
-use Rattle.std.proofs.lemmas.List.{length-map}
+use Rattle.std.proofs.Common.{◌≡◌, ℕ, Bool, List, [], ◌∷◌, ◌++◌, ◌∙◌, Option, Some, None, ap, ap₂, subst}
+use Rattle.std.specs.Prelude.{IfSome}
 use Rattle.layout.specs.declared.shape.Layout.{Layout}
 use Rattle.forward.specs.Objects.{ObjectsState}
-use Rattle.forward.proofs.Ranked.{offsets_many}
-use Rattle.model.specs.Plans.{offsets_from}
-use Rattle.page.specs.Kept.{AreKept, IsKept, KeptState, objects_in, size_in, sizes_in}
-
--- there is a size for each set bit
-pub sizes_many : (layouts : List Layout) (words : List ℕ) (live : List Bool)
-    → length (sizes_in layouts words live) ≡ count_by (λ b. b) live
-sizes_many layouts words live = length-map (offsets_from 0 live) (size_in layouts words) ∙ offsets_many 0 live
+use Rattle.page.specs.Kept.{AreKept, IsKept, KeptState, objects_in}
 
 -- the last of kept objects are kept
 pub last_kept : (words : List ℕ) (ks xs : List KeptState) (k : KeptState) → ks ≡ xs ++ k ∷ [] → AreKept words ks

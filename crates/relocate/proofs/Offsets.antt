@@ -2,9 +2,8 @@
 use Rattle.std.proofs.Common.{◌≡◌, ℕ, ◌-◌, ◌<◌, ◌≤◌, Bool, List, [], length, map, sym, ◌∙◌, ap, Some, None}
 use Rattle.std.specs.List.{slice_get}
 use Rattle.std.specs.Prelude.{count_by}
-use Rattle.std.proofs.lemmas.List.{length-map}
 use Rattle.forward.specs.Objects.{ObjectsState}
-use Rattle.forward.proofs.Ranked.{offsets_many}
+use Rattle.forward.proofs.Offsets.{sized_many}
 use Rattle.model.specs.Bits.{of_page}
 use Rattle.model.specs.Holding.{IsHeap}
 use Rattle.model.specs.Plans.{live_offsets, offsets_from}
@@ -34,8 +33,7 @@ module _ (h : HeapState) (n : ℕ) (low : 0 < n) where
 pub sizes_many : (h : HeapState) (n : ℕ) (row : List Bool) → row ≡ of_page h.live n
     → length (draft_sizes h n) ≡ count_by (λ b. b) row
 unfolding live_offsets
-sizes_many h n row e = length-map (offsets_from 0 (of_page h.live n)) (draft_size h n)
-    ∙ offsets_many 0 (of_page h.live n) ∙ ap (count_by (λ b. b)) (sym e)
+sizes_many h n row e = sized_many (draft_size h n) (of_page h.live n) ∙ ap (count_by (λ b. b)) (sym e)
 
 pub sizes_live : (h : HeapState) (n : ℕ) (row : List Bool) → row ≡ of_page h.live n
     → map (draft_size h n) (offsets_from 0 row) ≡ draft_sizes h n

@@ -15,6 +15,9 @@ trait Keeping: Mutating + Stepping {
 
     /// Returns whether the sizes of each of the pages 1 to 3 are kept.
     fn kept(&self) -> [bool; 3];
+
+    /// Takes the objects of page 1, and returns whether they were kept.
+    fn take_first(&mut self) -> bool;
 }
 
 /// Returns whether the sizes of a page are kept.
@@ -30,14 +33,18 @@ impl Keeping for Heap {
     fn kept(&self) -> [bool; 3] {
         [is_kept(self, 1), is_kept(self, 2), is_kept(self, 3)]
     }
+
+    fn take_first(&mut self) -> bool {
+        self.memory().page_count() != 0 && self.raw_take_objects(1).is_some()
+    }
 }
 
 const NONE: [bool; 3] = [false; 3];
 
 const FIRST: [bool; 3] = [true, false, false];
 
-/// The sizes of page 1, which has one object, are kept until the object's datum is written. Pages 2 and 3 have no
-/// memory.
+/// The sizes of page 1, which has one object, are kept until the object's datum is written, or until its objects are
+/// taken. Pages 2 and 3 have no memory.
 fn keeps(rt: &impl Abort, mut heap: impl Keeping + Drop) -> Result<(), Fail> {
     close(&mut heap)?;
     same_at(rt, "first", heap.kept(), NONE);
@@ -49,6 +56,9 @@ fn keeps(rt: &impl Abort, mut heap: impl Keeping + Drop) -> Result<(), Fail> {
     same_at(rt, "after a write", heap.kept(), NONE);
     heap.keep(1)?;
     same_at(rt, "again", heap.kept(), FIRST);
+    let taken = [heap.take_first(), heap.take_first(), false];
+    same_at(rt, "taken", taken, FIRST);
+    same_at(rt, "after they were taken", heap.kept(), NONE);
     Ok(())
 }
 

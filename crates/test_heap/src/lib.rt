@@ -6,6 +6,8 @@ mod at_once;
 #[cfg(test)]
 mod beginnings;
 #[cfg(test)]
+mod choices;
+#[cfg(test)]
 mod heaps;
 #[cfg(test)]
 mod kept;
