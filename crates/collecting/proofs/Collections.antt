@@ -14,7 +14,6 @@ use Rattle.model.specs.declared.steps.Answer.{Answer}
 use Rattle.model.specs.declared.steps.Step.TheVariants as steps
 use Rattle.model.specs.declared.steps.Refusal.{Refusal}
 use Rattle.model.specs.declared.steps.Refusal.TheVariants as refusals
-use Rattle.model.specs.Checkpoints.{all_crossed}
 use Rattle.model.specs.Cycles.{end_mark, end_mark_outcome, none_pending, first_pending, has_todo}
 use Rattle.model.specs.Outcome.{outcome, worker_gate}
 use Rattle.model.specs.Owning.{IsStore}
@@ -23,17 +22,17 @@ use Rattle.model.specs.Scans.{may_scan}
 use Rattle.model.specs.States.{HeapState}
 use Rattle.model.specs.Stores.{page_at, record_count, state_at, state_in, is_from}
 use Rattle.refinement.proofs.Accepted.{OnAccepted, of_accepted, on_bind, on_unless}
-use Rattle.managed.specs.Goings.{Goes, IsCrossing, AllTried}
-use Rattle.managed.specs.Collecting.{IsCollecting, StandsUnseen, EndsMark, EndsRest, EndsWell}
+use Rattle.managed.specs.Collecting.{IsCollecting, StandsUnseen, EndsCrossing, EndsMark, EndsRest}
 use Rattle.managed.specs.Emptying.{EndsPage, EndsEmptying}
 use Rattle.managed.specs.Scrubbing.{needs_no_scrub}
+use Rattle.managed.proofs.Emptied.{emptying_goes}
 use Rattle.managed.proofs.Going.{goes_none, goes_then}
-use Rattle.managed.proofs.Gathering.{collected, crossings_collect}
+use Rattle.managed.proofs.Gathering.{collected, crossing_goes, mark_goes, rest_goes}
+use Rattle.managed.proofs.Sequences.{step_outcome, then_goes, then_more}
 use Rattle.collecting.specs.declared.collecting.Collected.{Collected}
-use Rattle.collecting.specs.Collections.{Then, SettlesAndMarks, MarksAndEmpties, MarksWhole, EndsCollecting}
+use Rattle.collecting.specs.Collections.{SettlesAndMarks, MarksAndEmpties, EndsCollecting, EndsChoosing}
 use Rattle.collecting.specs.Collections.{WORKER, Collects, EndsLeft, EndsLeftPages, EndsSettling, EndsDue, has_from}
-use Rattle.collecting.specs.Collections.{EndsDueMark, EndsChosen, EndsChoice}
-use Rattle.collecting.specs.Collections.{ChoosesAndEmpties, EndsCycle, CollectsWhole}
+use Rattle.collecting.specs.Collections.{EndsDueMark, EmptiesChosen, EndsChosen, EndsChoice, ChoosesAndEmpties}
 
 pub none : (h : HeapState) → Collects h h
 none h = goes_none (IsCollecting WORKER) h
@@ -136,20 +135,6 @@ left_all h g n s phase l k = (
         ∙ ap (λ (b : Bool). cond b None (slice_get g.store.pages (j + 1 - 1))) (sym test))
         ∙ k.pages (j + 1) (omega (arith, within, few, count, l))
 
-pub settled_then : (h m g : HeapState) (r : Result Unit Refusal) → Goes (IsCrossing WORKER) h m → EndsLeftPages m r g
-    → EndsSettling h r g
-settled_then h m g (Ok u) a b = (and_then h m g (crossings_collect WORKER h m a) b.0, b.1)
-settled_then h m g (Err e) a b =
-    let k : Collects h m = crossings_collect WORKER h m a in
-    (and_then h m g k b.0, inr (b.1.0, b.1.1, and_then h m b.1.0 k b.1.2, b.1.3))
-
-pub settled_stops : (h g : HeapState) (c : Result Unit Refusal) (e : Refusal) → c ≡ Err e → c ≡ all_crossed g
-    → Goes (IsCrossing WORKER) h g → AllTried WORKER c g → EndsSettling h (Err e) g
-settled_stops h g c e is all a behind = (
-  crossings_collect WORKER h g a,
-  inl (a, sym all ∙ is, subst (λ (r : Result Unit Refusal). AllTried WORKER r g) is behind),
-)
-
 -- ---- the mark that is due
 
 pub due_rest : (h g : HeapState) (r : Result ℕ Refusal) → is_marking h.phase ≡ true → EndsRest WORKER h r g
@@ -162,19 +147,21 @@ due_mark h g r is k = subst (λ (b : Bool). EndsDue b h r g) (sym is) k
 
 -- ---- chosen pages
 
-pub chosen_none : (h : HeapState) (ns : List ℕ) → length ns ≡ 0 → EndsChosen h ns (Ok 0) h
-chosen_none h [] l = (none h, refl, refl)
-chosen_none h (n ∷ ns) l = absurd (omega (arith, l))
+-- pages that aren't none
+chosen_some : (h g : HeapState) (ns : List ℕ) (k : ℕ) (r : Result Unit Refusal) → k ≡ length ns → k ≢ 0
+    → EndsEmptying WORKER h ns r g → EmptiesChosen h ns r g
+chosen_some h g [] k r many some a = absurd (some many)
+chosen_some h g (n ∷ ns) k r many some a = a
 
-pub chosen_some : (h g : HeapState) (ns : List ℕ) (k : ℕ) (r : Result Unit Refusal) (u : Unit {0}) → r ≡ Ok u
-    → k ≡ length ns → k ≢ 0 → Collects h g → EndsEmptying WORKER h ns r g → EndsChosen h ns (Ok k) g
-chosen_some h g [] k r u is many some a b = absurd (some many)
-chosen_some h g (n ∷ ns) k r u is many some a b =
-    (a, many, subst (λ (x : Result Unit Refusal). EndsEmptying WORKER h (n ∷ ns) x g) is b)
+pub chosen_ends : (h g : HeapState) (ns : List ℕ) (k : ℕ) (r : Result Unit Refusal) (u : Unit {0}) → r ≡ Ok u
+    → k ≡ length ns → k ≢ 0 → EndsEmptying WORKER h ns r g → EndsChosen h ns (Ok k) g
+chosen_ends h g ns k r u is many some a =
+    (many, subst (λ (x : Result Unit Refusal). EmptiesChosen h ns x g) is (chosen_some h g ns k r many some a))
 
-pub chosen_stops : (h g : HeapState) (ns : List ℕ) (r : Result Unit Refusal) (e : Refusal) → r ≡ Err e → Collects h g
-    → EndsEmptying WORKER h ns r g → EndsChosen h ns (Err e) g
-chosen_stops h g ns r e is a b = (a, subst (λ (x : Result Unit Refusal). EndsEmptying WORKER h ns x g) is b)
+pub chosen_stops : (h g : HeapState) (ns : List ℕ) (k : ℕ) (r : Result Unit Refusal) (e : Refusal) → r ≡ Err e
+    → k ≡ length ns → k ≢ 0 → EndsEmptying WORKER h ns r g → EndsChosen h ns (Err e) g
+chosen_stops h g ns k r e is many some a =
+    subst (λ (x : Result Unit Refusal). EmptiesChosen h ns x g) is (chosen_some h g ns k r many some a)
 
 pub choice_ends : (live live_words copied k : ℕ) (h g : HeapState) (ns : List ℕ) (r : Result ℕ Refusal) → r ≡ Ok k
     → EndsChosen h ns r g → EndsChoice live live_words copied h ns
@@ -189,74 +176,69 @@ choice_stops live live_words copied h g ns r e is b = subst (λ (x : Result ℕ 
 pub sparse_ends : (percent live live_words copied : ℕ) (h g : HeapState) (ns : List ℕ) (r : Result Collected Refusal)
     → IsChoice h percent ns → copied ≡ words_on h ns → live_words ≡ all_words h
     → EndsChoice live live_words copied h ns r g → ChoosesAndEmpties percent live h r g
-sparse_ends percent live live_words copied h g ns (Ok r) c moved all b =
-    (b.0, b.3.0, (ns, c, b.3.1, b.3.2, b.2 ∙ moved, b.1 ∙ all))
-sparse_ends percent live live_words copied h g ns (Err e) c moved all b = (b.0, inr (ns, c, b.1))
+sparse_ends percent live live_words copied h g ns r c moved all b = then_more (EndsChoosing percent)
+    (λ (ns : List ℕ) (m : HeapState). EndsChoice live (all_words m) (words_on m ns) m ns) h h g (Ok ns) ns r refl
+    (c, refl)
+    (subst (λ (n : ℕ). EndsChoice live n (words_on h ns) h ns r g) all
+    (subst (λ (n : ℕ). EndsChoice live live_words n h ns r g) moved b))
 
 pub sparse_lacks : (percent live : ℕ) (h : HeapState) → ChoosesAndEmpties percent live h (Err refusals.Memory) h
-sparse_lacks percent live h = (none h, inl (refl, refl))
+sparse_lacks percent live h = inl (refl, refl)
 
--- ---- all of it
+-- ---- the steps of all of it
 
--- the steps of each
-sparse_goes : (percent live : ℕ) (h g : HeapState) (r : Result Collected Refusal) → ChoosesAndEmpties percent live h r g
-    → Collects h g
-sparse_goes percent live h g (Ok x) k = k.1
-sparse_goes percent live h g (Err e) k = k.0
+-- nothing was done
+same_goes : (h g : HeapState) → g ≡ h → Collects h g
+same_goes h g e = subst (Collects h) (sym e) (none h)
+
+left_goes : (h g : HeapState) (r : Result Unit Refusal) → EndsLeftPages h r g → Collects h g
+left_goes h g (Ok u) k = k.0
+left_goes h g (Err e) k = k.0
 
 settling_goes : (h g : HeapState) (r : Result Unit Refusal) → EndsSettling h r g → Collects h g
-settling_goes h g (Ok u) k = k.0
-settling_goes h g (Err e) k = k.0
+settling_goes h g r k = then_goes (EndsCrossing WORKER) (λ (u : Unit {0}). EndsLeftPages) (IsCollecting WORKER)
+    (crossing_goes WORKER) (λ u. left_goes) h g r k
 
--- one, and then another
-module _ {A B : Type 0} (P : HeapState → Result A Refusal → HeapState → Type 0)
-    (Q : A → HeapState → Result B Refusal → HeapState → Type 0) (h : HeapState) (p : Result A Refusal) where
-  then_more : (m g : HeapState) (x : A) (r : Result B Refusal) → p ≡ Ok x → P h p m → Q x m r g → Then P Q h r g
-  then_more m g x (Ok y) is a b = (m, x, subst (λ (z : Result A Refusal). P h z m) is a, b)
-  then_more m g x (Err e) is a b = inr (m, x, subst (λ (z : Result A Refusal). P h z m) is a, b)
+due_goes : (h g : HeapState) (r : Result ℕ Refusal) → EndsDueMark h r g → Collects h g
+due_goes h g r k = by_test (is_marking h.phase) k
+  where
+    by_test : (b : Bool) → EndsDue b h r g → Collects h g
+    by_test true k = rest_goes WORKER h g r k
+    by_test false k = mark_goes WORKER h g r k
 
-  then_stops : (g : HeapState) (e : Refusal) → p ≡ Err e → P h p g → Then P Q h (Err e) g
-  then_stops g e is a = inl (subst (λ (z : Result A Refusal). P h z g) is a)
+chosen_goes : (ns : List ℕ) (h g : HeapState) (r : Result Unit Refusal) → EmptiesChosen h ns r g → Collects h g
+chosen_goes [] h g r k = same_goes h g k.1
+chosen_goes (n ∷ ns) h g r k = emptying_goes WORKER (n ∷ ns) h g r k
 
-pub cycle_then : (percent live : ℕ) (h m g : HeapState) (d : Result ℕ Refusal) (r : Result Collected Refusal)
-    → d ≡ Ok live → Collects h m → EndsDueMark h d m → ChoosesAndEmpties percent live m r g → EndsCycle percent h r g
-cycle_then percent live h m g d r is a b k = (
-  and_then h m g a (sparse_goes percent live m g r k),
-  then_more EndsDueMark (ChoosesAndEmpties percent) h d m g live r is b k,
-)
+choosing_goes : (percent : ℕ) (h g : HeapState) (r : Result (List ℕ) Refusal) → EndsChoosing percent h r g
+    → Collects h g
+choosing_goes percent h g (Ok ns) k = same_goes h g k.1
+choosing_goes percent h g (Err e) k = same_goes h g k.1
 
-pub cycle_stops : (percent : ℕ) (h g : HeapState) (d : Result ℕ Refusal) (e : Refusal) → d ≡ Err e → Collects h g
-    → EndsDueMark h d g → EndsCycle percent h (Err e) g
-cycle_stops percent h g d e is a b = (a, then_stops EndsDueMark (ChoosesAndEmpties percent) h d g e is b)
+choice_goes : (live live_words copied : ℕ) (ns : List ℕ) (h g : HeapState) (r : Result Collected Refusal)
+    → EndsChoice live live_words copied h ns r g → Collects h g
+choice_goes live live_words copied ns h g (Ok r) k = chosen_goes ns h g (Ok tt) k.3.1
+choice_goes live live_words copied ns h g (Err e) k = chosen_goes ns h g (Err e) k
 
-pub whole_then : (percent : ℕ) (h m g : HeapState) (s : Result Unit Refusal) (u : Unit {0})
-    (r : Result Collected Refusal) → s ≡ Ok u → EndsSettling h s m → EndsCycle percent m r g
-    → CollectsWhole percent h r g
-whole_then percent h m g s u r is a b = (
-  and_then h m g (settling_goes h m s a) b.0,
-  then_more EndsSettling (λ (v : Unit {0}). MarksAndEmpties percent) h s m g u r is a b.1,
-)
+sparse_goes : (percent live : ℕ) (h g : HeapState) (r : Result Collected Refusal) → ChoosesAndEmpties percent live h r g
+    → Collects h g
+sparse_goes percent live h g r k = then_goes (EndsChoosing percent)
+    (λ (ns : List ℕ) (m : HeapState). EndsChoice live (all_words m) (words_on m ns) m ns) (IsCollecting WORKER)
+    (choosing_goes percent) (λ ns m. choice_goes live (all_words m) (words_on m ns) ns m) h g r k
 
-pub whole_stops : (percent : ℕ) (h g : HeapState) (s : Result Unit Refusal) (e : Refusal) → s ≡ Err e
-    → EndsSettling h s g → CollectsWhole percent h (Err e) g
-whole_stops percent h g s e is a = (
-  settling_goes h g s a,
-  then_stops EndsSettling (λ (v : Unit {0}). MarksAndEmpties percent) h s g e is a,
-)
+cycle_goes : (percent : ℕ) (h g : HeapState) (r : Result Collected Refusal) → MarksAndEmpties percent h r g
+    → Collects h g
+cycle_goes percent h g r k = then_goes EndsDueMark (ChoosesAndEmpties percent) (IsCollecting WORKER) due_goes
+    (sparse_goes percent) h g r k
 
--- ---- a mark alone
+pub collecting_goes : (percent : ℕ) (h g : HeapState) (r : Result Collected Refusal) → EndsCollecting percent h r g
+    → Collects h g
+collecting_goes percent h g r k = then_goes EndsSettling (λ (u : Unit {0}). MarksAndEmpties percent)
+    (IsCollecting WORKER) settling_goes (λ u. cycle_goes percent) h g r k
 
-pub marked_then : (h m g : HeapState) (s : Result Unit Refusal) (u : Unit {0}) (r : Result ℕ Refusal) → s ≡ Ok u
-    → EndsSettling h s m → Collects m g → EndsDueMark m r g → MarksWhole h r g
-marked_then h m g s u r is a b due = (
-  and_then h m g (settling_goes h m s a) b,
-  then_more EndsSettling (λ (v : Unit {0}). EndsDueMark) h s m g u r is a due,
-)
-
-pub marked_stops : (h g : HeapState) (s : Result Unit Refusal) (e : Refusal) → s ≡ Err e → EndsSettling h s g
-    → MarksWhole h (Err e) g
-marked_stops h g s e is a =
-    (settling_goes h g s a, then_stops EndsSettling (λ (v : Unit {0}). EndsDueMark) h s g e is a)
+pub marking_goes : (h g : HeapState) (r : Result ℕ Refusal) → SettlesAndMarks h r g → Collects h g
+marking_goes h g r k = then_goes EndsSettling (λ (u : Unit {0}). EndsDueMark) (IsCollecting WORKER) settling_goes
+    (λ u. due_goes) h g r k
 
 -- a collection whose mark failed has failed
 pub marking_stops : (percent : ℕ) (h g : HeapState) (e : Refusal) → SettlesAndMarks h (Err e) g
@@ -273,13 +255,16 @@ unfolding outcome end_mark_outcome end_mark
 ended h w = on_bind (worker_gate h w steps.EndMark) _ _ (λ u e. on_bind (may_scan h) _ _ (λ v f.
     on_unless (has_todo h) _ _ _ (λ x. on_bind (none_pending (first_pending h.threads)) _ _ (λ y k. refl))))
 
-ended_well : (h g : HeapState) (live : ℕ) → EndsWell WORKER h live g → g.phase ≡ Idle
-ended_well h g live k = of_accepted (λ (z : HeapState × Answer). z.0.phase ≡ Idle)
-    (outcome k.before (Worker WORKER) steps.EndMark) (g, k.answer) (ended k.before WORKER) k.last
+ended_rest : (h g : HeapState) (live : ℕ) → EndsRest WORKER h (Ok live) g → g.phase ≡ Idle
+ended_rest h g live k =
+    let m = k.3.0 in
+    let well = k.3.3 in
+    of_accepted (λ (z : HeapState × Answer). z.0.phase ≡ Idle) (outcome m (Worker WORKER) steps.EndMark)
+    (g, well.answer) (ended m WORKER) (step_outcome (Worker WORKER) steps.EndMark well.answer m g well.last)
 
 ended_due : (b : Bool) (h g : HeapState) (live : ℕ) → EndsDue b h (Ok live) g → g.phase ≡ Idle
-ended_due true h g live k = ended_well h g live k
-ended_due false h g live k = ended_well k.0 g live k.2
+ended_due true h g live k = ended_rest h g live k
+ended_due false h g live k = ended_rest k.0 g live k.3
 
 pub due_calm : (h g : HeapState) (r : Result ℕ Refusal) (live : ℕ) → r ≡ Ok live → EndsDueMark h r g
     → needs_no_scrub g.phase ≡ true

@@ -12,7 +12,7 @@ use Rattle.managed.proofs.Going.{goes_none, goes_thread}
 use Rattle.collecting.specs.declared.collecting.Collected.{Collected}
 use Rattle.collecting.specs.declared.counting.Cause.{Cause}
 use Rattle.collecting.specs.declared.counting.Counters.{Counters}
-use Rattle.collecting.specs.Collections.{CollectsWhole, has_buffer, lacks_room}
+use Rattle.collecting.specs.Collections.{EndsCollecting, has_buffer, lacks_room}
 use Rattle.collecting.specs.Counting.{CountsRoom, HasCounted, IsTake, LacksRoom, TakesOnly, counted}
 use Rattle.collecting.specs.Rooms.{IsAny, RefillsBy}
 use Rattle.collecting.proofs.NotRoom.{collecting_not}
@@ -32,7 +32,7 @@ taken_only t n h m g q r back kept does keeps = goes_thread (IsTake t) lent h m 
 
 -- a collection was counted
 pub counted_once : (cause : Cause) (percent : ℕ) (h g : HeapState) (r : Result Collected Refusal) (old new : Counters)
-    → CollectsWhole percent h r g → new ≡ counted cause r old → HasCounted cause percent h old new
+    → EndsCollecting percent h r g → new ≡ counted cause r old → HasCounted cause percent h old new
 counted_once cause percent h g r old new ends counts = (r, g, ends, counts)
 
 -- a Take is rejected for lack of space only on the current heap

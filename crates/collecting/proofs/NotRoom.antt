@@ -1,6 +1,6 @@
 -- The errors of a collection: never that there are too few frames or pages.
 use Rattle.std.proofs.Common.{◌≡◌, ◌⊎◌, ◌∙◌, ℕ, ◌+◌, ◌*◌, Bool, true, false, cond, not, List, [], ◌∷◌, nat_le, nat_lt}
-use Rattle.std.proofs.Common.{Option, Some, None, refl, ap, inl, inr, arith}
+use Rattle.std.proofs.Common.{Option, Some, None, refl, sym, subst, ap, inl, inr, arith}
 use Rattle.std.specs.Prelude.{Result, Ok, Err, if◌then◌else◌, ◌&&◌, ◌||◌, is_some, length, slice_get}
 use Rattle.std.specs.List.{list_any}
 use Rattle.std.proofs.lemmas.Bool.{and_parts, leb-true, ltb-true}
@@ -27,12 +27,12 @@ use Rattle.model.specs.Scans.{is_taken, is_todo_in}
 use Rattle.model.specs.States.{HeapState}
 use Rattle.model.specs.Stores.{state_at, is_from, is_open}
 use Rattle.managed.specs.Goings.{Scans, EndsDrain}
-use Rattle.managed.specs.Collecting.{StopsCrossing, StopsScanning, StopsMarking}
-use Rattle.managed.specs.Emptying.{StopsPage, EndsEmptying}
+use Rattle.managed.specs.Collecting.{StopsCrossing, EndsScanned, EndsRest}
+use Rattle.managed.specs.Emptying.{StopsPage, EndsProtected, EndsEmptying}
 use Rattle.managed.proofs.Going.{next_scans}
 use Rattle.collecting.specs.declared.collecting.Collected.{Collected}
-use Rattle.collecting.specs.Collections.{WORKER, StopsSettling, EndsDue, StopsSparse, MarksAndEmpties}
-use Rattle.collecting.specs.Collections.{EndsCollecting, is_of_rooms, IsNotRoom}
+use Rattle.collecting.specs.Collections.{WORKER, EndsSettling, EndsDue, EmptiesChosen, ChoosesAndEmpties}
+use Rattle.collecting.specs.Collections.{MarksAndEmpties, EndsCollecting, is_of_rooms, IsNotRoom}
 use Rattle.collecting.specs.Parts.{EndsPart, StopsAt}
 use Rattle.collecting.specs.Parts.{Beginning, Crossing, Scanning, Ending, Emptying}
 
@@ -213,7 +213,7 @@ page_stops_not : (h : HeapState) (n : ℕ) (e : Refusal) (g : HeapState) → Sto
     → is_of_rooms e ≡ false
 page_stops_not h n e g (inl k) = of_refused (outcome h (Worker WORKER) (steps.CopyPage n)) e (copy_not h WORKER n) k.0
 page_stops_not h n e g (inr k) =
-    of_refused (outcome k.0 (Worker WORKER) (steps.Release n)) e (release_not k.0 WORKER n) k.3
+    of_refused (outcome k.0 (Worker WORKER) (steps.Release n)) e (release_not k.0 WORKER n) k.3.0
 
 crossing_stops_not : (h : HeapState) (e : Refusal) (g : HeapState) → StopsCrossing WORKER h e g → is_of_rooms e ≡ false
 crossing_stops_not h e g k = of_refused (all_crossed g) e (crossed_not g) k.1
@@ -229,24 +229,29 @@ drain_stops_not h e g (inl todo) = ap is_of_rooms todo.0
 drain_stops_not h e g (inr k) = of_refused (outcome g (Worker WORKER) k.0) e
     (step_not g k.0 (next_scans g WORKER k.0 k.1)) k.2
 
-scanning_stops_not : (h : HeapState) (e : Refusal) (g : HeapState) → StopsScanning WORKER h e g → is_of_rooms e ≡ false
-scanning_stops_not h e g (a, inl k) = drain_stops_not h e g k
-scanning_stops_not h e g (a, inr k) = of_refused (outcome g (Worker WORKER) steps.EndMark) e (end_not g WORKER) k.1
+scanned_not : (h : HeapState) (e : Refusal) (g : HeapState) → EndsScanned WORKER h (Err e) g → is_of_rooms e ≡ false
+scanned_not h e g (inl k) = drain_stops_not h e g k.1
+scanned_not h e g (inr k) = of_refused (outcome k.0 (Worker WORKER) steps.EndMark) e (end_not k.0 WORKER) k.3.0
 
-marking_stops_not : (h : HeapState) (e : Refusal) (g : HeapState) → StopsMarking WORKER h e g → is_of_rooms e ≡ false
-marking_stops_not h e g (inl k) = crossing_stops_not h e g k
-marking_stops_not h e g (inr k) = scanning_stops_not k.0 e g k.2
+rest_not : (h : HeapState) (e : Refusal) (g : HeapState) → EndsRest WORKER h (Err e) g → is_of_rooms e ≡ false
+rest_not h e g (inl k) = crossing_stops_not h e g k
+rest_not h e g (inr k) = scanned_not k.0 e g k.3
 
 due_not : (b : Bool) (h : HeapState) (e : Refusal) (g : HeapState) → EndsDue b h (Err e) g → is_of_rooms e ≡ false
-due_not true h e g k = marking_stops_not h e g k
+due_not true h e g k = rest_not h e g k
 due_not false h e g (inl k) = of_refused (outcome h (Worker WORKER) steps.StartMark) e (start_not h WORKER) k.0
-due_not false h e g (inr k) = marking_stops_not k.0 e g k.2
+due_not false h e g (inr k) = rest_not k.0 e g k.3
 
 refused_or_lacks : (h g : HeapState) (ns : List ℕ) (e : Refusal) (o : Outcome)
     → DoesStep h (steps.Protect ns) (Err e) g o
     → (e ≡ refusals.Memory) ⊎ (o ≡ Err e)
 refused_or_lacks h g ns refusals.Memory o does = inl refl
 refused_or_lacks h g ns _ o does = inr does.0
+
+protected_not : (h : HeapState) (ns : List ℕ) (e : Refusal) (g : HeapState) → EndsProtected WORKER h ns (Err e) g
+    → is_of_rooms e ≡ false
+protected_not h ns e g (inl k) = crossing_stops_not h e g k
+protected_not h ns e g (inr k) = page_stops_not k.3.there k.3.page e g k.3.stops
 
 emptying_not : (h : HeapState) (ns : List ℕ) (e : Refusal) (g : HeapState) → has_room_for h ns ≡ true
     → EndsEmptying WORKER h ns (Err e) g → is_of_rooms e ≡ false
@@ -257,28 +262,36 @@ emptying_not h ns e g room (inl k) =
     by_refusal (inl memory) = ap is_of_rooms memory
     by_refusal (inr refused) = of_refused (outcome h (Worker WORKER) (steps.Protect ns)) e
         (protect_not h WORKER ns room) refused
-emptying_not h ns e g room (inr (m, first, inl k)) = crossing_stops_not m e g k
-emptying_not h ns e g room (inr (m, first, inr k)) = page_stops_not k.2.there k.2.page e g k.2.stops
+emptying_not h ns e g room (inr k) = protected_not k.0 ns e g k.3
 
-sparse_not : (percent : ℕ) (h : HeapState) (e : Refusal) (g : HeapState) → StopsSparse percent h e g
-    → is_of_rooms e ≡ false
-sparse_not percent h e g (inl k) = ap is_of_rooms k.0
-sparse_not percent h e g (inr k) = emptying_not h k.0 e g k.1.3.2 k.2
+chosen_not : (h : HeapState) (ns : List ℕ) (e : Refusal) (g : HeapState) → has_room_for h ns ≡ true
+    → EmptiesChosen h ns (Err e) g → is_of_rooms e ≡ false
+chosen_not h [] e g room k = absurd (not_ok e k.0)
+  where
+    not_ok : (e : Refusal) → ◌≡◌ {A = Result Unit Refusal} (Err e) (Ok tt) → ⊥
+    not_ok e is = cc
+chosen_not h (n ∷ ns) e g room k = emptying_not h (n ∷ ns) e g room k
+
+sparse_not : (percent live : ℕ) (h : HeapState) (e : Refusal) (g : HeapState)
+    → ChoosesAndEmpties percent live h (Err e) g → is_of_rooms e ≡ false
+sparse_not percent live h e g (inl k) = ap is_of_rooms k.0
+sparse_not percent live h e g (inr k) = chosen_not k.0 k.1 e g
+    (subst (λ (x : HeapState). has_room_for x k.1 ≡ true) (sym k.2.1) k.2.0.3.2) k.3
 
 cycle_not : (percent : ℕ) (h : HeapState) (e : Refusal) (g : HeapState) → MarksAndEmpties percent h (Err e) g
     → is_of_rooms e ≡ false
 cycle_not percent h e g (inl k) = due_not (is_marking h.phase) h e g k
-cycle_not percent h e g (inr k) = sparse_not percent k.0 e g k.3.1
+cycle_not percent h e g (inr k) = sparse_not percent k.1 k.0 e g k.3
 
-settling_not : (h : HeapState) (e : Refusal) (g : HeapState) → StopsSettling h e g → is_of_rooms e ≡ false
+settling_not : (h : HeapState) (e : Refusal) (g : HeapState) → EndsSettling h (Err e) g → is_of_rooms e ≡ false
 settling_not h e g (inl k) = crossing_stops_not h e g k
-settling_not h e g (inr k) = page_stops_not k.0 k.1 e g k.3.1
+settling_not h e g (inr k) = page_stops_not k.3.1.0 k.3.1.1 e g k.3.1.3.1
 
 -- a collection
 pub collecting_not : (percent : ℕ) (h : HeapState) (r : Result Collected Refusal) (g : HeapState)
     → EndsCollecting percent h r g → IsNotRoom r
 collecting_not percent h (Ok r) g k = tt
-collecting_not percent h (Err e) g (inl k) = settling_not h e g k.1
+collecting_not percent h (Err e) g (inl k) = settling_not h e g k
 collecting_not percent h (Err e) g (inr k) = cycle_not percent k.0 e g k.3
 
 -- ---- a part of one

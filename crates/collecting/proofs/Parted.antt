@@ -6,21 +6,20 @@ use Rattle.model.specs.declared.steps.Actor.TheVariants.{Worker}
 use Rattle.model.specs.declared.steps.Step.TheVariants as steps
 use Rattle.model.specs.declared.steps.Answer.{Answer}
 use Rattle.model.specs.declared.steps.Refusal.{Refusal}
-use Rattle.model.specs.Checkpoints.{all_crossed}
 use Rattle.model.specs.Outcome.{outcome}
 use Rattle.model.specs.Phases.{may_start_mark, is_protect_crossing}
 use Rattle.model.specs.Refusing.{DoesStep}
 use Rattle.model.specs.Scans.{next_drain}
 use Rattle.model.specs.States.{HeapState}
 use Rattle.refinement.specs.Standing.{KeepsStanding}
-use Rattle.managed.specs.Goings.{Goes, IsCrossing, IsScan, IsScrub, AllTried, EndsScan, ScansObjects}
+use Rattle.managed.specs.Goings.{Goes, IsScan, IsScrub, EndsScan, ScansObjects}
 use Rattle.managed.specs.Preparing.{Prepares}
 use Rattle.managed.specs.Scrubbing.{AreScrubbed}
 use Rattle.managed.proofs.Counting.{prepares_goes}
 use Rattle.managed.proofs.Gathering.{collect_step, drains_collect, scans_collect, scrubs_collect}
 use Rattle.managed.proofs.Scrubbed.{scrubs_phase}
 use Rattle.collecting.specs.Collections.{WORKER, Collects}
-use Rattle.collecting.specs.Parts.{HasEnded, StopsAt, Stops, EndsCrossing, EndsPortion, EndsPart, EndsStage}
+use Rattle.collecting.specs.Parts.{HasEnded, StopsAt, Stops, EndsPortion, EndsPart, EndsStage}
 use Rattle.collecting.specs.Parts.{EndsProtecting, EndsScanning}
 use Rattle.collecting.specs.Parts.{Beginning, Scanning, Ending}
 use Rattle.collecting.specs.Stages.{EndsMarking}
@@ -46,11 +45,6 @@ portion_goes h g (Err e) k = k.0
 pub portion_stops : {A : Type 0} (h g : HeapState) (r : Result A Refusal) (e : Refusal) → r ≡ Err e
     → EndsPortion h r g → Stops h e g
 portion_stops {A} h g r e is k = subst (λ (x : Result A Refusal). EndsPortion h x g) is k
-
-pub crossed : (h g : HeapState) (r : Result Unit Refusal) → r ≡ all_crossed g → Goes (IsCrossing WORKER) h g
-    → AllTried WORKER r g → EndsCrossing h r g
-crossed h g (Ok u) is a behind = (a, sym is)
-crossed h g (Err e) is a behind = (a, sym is, behind)
 
 -- ---- a mark
 

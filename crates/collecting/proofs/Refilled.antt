@@ -28,11 +28,11 @@ use Rattle.managed.proofs.Going.{goes_none, goes_then, goes_thread}
 use Rattle.managed.proofs.Gathering.{goes_wider}
 use Rattle.managed.proofs.Running.{runs_one}
 use Rattle.collecting.specs.declared.collecting.Collected.{Collected}
-use Rattle.collecting.specs.Collections.{WORKER, Collects, CollectsWhole, EndsCollecting, MarksWhole}
+use Rattle.collecting.specs.Collections.{WORKER, Collects, EndsCollecting, SettlesAndMarks}
 use Rattle.collecting.specs.Collections.{has_buffer, is_of_rooms, lacks_room}
 use Rattle.collecting.specs.Rooms.{IsRefill, Refills, EndsRefill, RefillsBy, HasMarkedSince, HasTriedAll, IsAny}
 use Rattle.collecting.specs.Rooms.{IsNotHeld, EndsMaking, EndsTaking, LacksPage, MakingStands}
-use Rattle.collecting.proofs.Collections.{marking_stops}
+use Rattle.collecting.proofs.Collections.{collecting_goes, marking_goes, marking_stops}
 use Rattle.collecting.proofs.NotRoom.{collecting_not}
 use Rattle.collecting.proofs.Given.{never_held}
 
@@ -130,12 +130,12 @@ taken t n percent h m g q (Err e) back kept does keeps has =
 
 -- a collection, and then a buffer
 pub collected_then : (t n percent : ℕ) (h m g : HeapState) (c : Result Collected Refusal) (x : Collected)
-    (r : Result Buffer Refusal) → c ≡ Ok x → CollectsWhole percent h c m
+    (r : Result Buffer Refusal) → c ≡ Ok x → EndsCollecting percent h c m
     → RefillsBy (HasMarkedSince t) t n percent m r g → RefillsBy (HasTriedAll t percent) t n percent h r g
 collected_then t n percent h m g c x r is a k = by_result r k
   where
     goes : Refills t h m
-    goes = collects_refill t h m a.0
+    goes = collects_refill t h m (collecting_goes percent h m c a)
 
     by_result : (r : Result Buffer Refusal) → RefillsBy (HasMarkedSince t) t n percent m r g
         → RefillsBy (HasTriedAll t percent) t n percent h r g
@@ -151,7 +151,7 @@ collected_then t n percent h m g c x r is a k = by_result r k
           behind = m;
           found = x;
           goes = goes_none (IsRefill t) h;
-          collects = subst (λ (y : Result Collected Refusal). EndsCollecting percent h y m) is a.1;
+          collects = subst (λ (y : Result Collected Refusal). EndsCollecting percent h y m) is a;
           marks = refused.2 l;
         },
       ),
@@ -163,27 +163,24 @@ collected_then t n percent h m g c x r is a k = by_result r k
 
 -- a collection that stopped
 pub collected_stops : (t n percent : ℕ) (h g : HeapState) (c : Result Collected Refusal) (e : Refusal) → c ≡ Err e
-    → CollectsWhole percent h c g → RefillsBy (HasTriedAll t percent) t n percent h (Err e) g
+    → EndsCollecting percent h c g → RefillsBy (HasTriedAll t percent) t n percent h (Err e) g
 collected_stops t n percent h g c e is a = (
-  collects_refill t h g a.0,
+  collects_refill t h g (collecting_goes percent h g c a),
   inr (inr (
     h,
     goes_none (IsRefill t) h,
-    subst (λ (x : Result Collected Refusal). EndsCollecting percent h x g) is a.1,
+    subst (λ (x : Result Collected Refusal). EndsCollecting percent h x g) is a,
   )),
 )
 
 -- a mark, and then a buffer
 pub marked_then : (t n percent : ℕ) (h m g : HeapState) (c : Result ℕ Refusal) (live : ℕ) (r : Result Buffer Refusal)
-    → c ≡ Ok live → MarksWhole h c m → RefillsBy IsAny t n percent m r g
+    → c ≡ Ok live → SettlesAndMarks h c m → RefillsBy IsAny t n percent m r g
     → RefillsBy (HasMarkedSince t) t n percent h r g
 marked_then t n percent h m g c live r is a k = by_result r k
   where
-    b : MarksWhole h (Ok live) m
-    b = subst (λ (x : Result ℕ Refusal). MarksWhole h x m) is a
-
     goes : Refills t h m
-    goes = collects_refill t h m b.0
+    goes = collects_refill t h m (marking_goes h m c a)
 
     by_result : (r : Result Buffer Refusal) → RefillsBy IsAny t n percent m r g
         → RefillsBy (HasMarkedSince t) t n percent h r g
@@ -199,7 +196,7 @@ marked_then t n percent h m g c live r is a k = by_result r k
           marked = m;
           live = live;
           goes = goes_none (IsRefill t) h;
-          marks = b.1;
+          marks = subst (λ (x : Result ℕ Refusal). SettlesAndMarks h x m) is a;
           to = k;
         },
       ),
@@ -211,10 +208,12 @@ marked_then t n percent h m g c live r is a k = by_result r k
 
 -- a mark that stopped
 pub marked_stops : (t n percent : ℕ) (h g : HeapState) (c : Result ℕ Refusal) (e : Refusal) → c ≡ Err e
-    → MarksWhole h c g → RefillsBy (HasMarkedSince t) t n percent h (Err e) g
+    → SettlesAndMarks h c g → RefillsBy (HasMarkedSince t) t n percent h (Err e) g
 marked_stops t n percent h g c e is a =
-    let k : MarksWhole h (Err e) g = subst (λ (x : Result ℕ Refusal). MarksWhole h x g) is a in
-    (collects_refill t h g k.0, inr (inr (h, goes_none (IsRefill t) h, marking_stops percent h g e k.1)))
+    let k : SettlesAndMarks h (Err e) g = subst (λ (x : Result ℕ Refusal). SettlesAndMarks h x g) is a in (
+      collects_refill t h g (marking_goes h g c a),
+      inr (inr (h, goes_none (IsRefill t) h, marking_stops percent h g e k)),
+    )
 
 -- the words were taken at once, or the error is another one than lack of space
 pub at_once : (Q : HeapState → HeapState → Type 0) (t n percent : ℕ) (h g : HeapState) (q : Result Buffer Refusal)

@@ -15,7 +15,7 @@ use Rattle.model.specs.Outcome.{outcome}
 use Rattle.model.specs.Refusing.{Outcome, DoesStep}
 use Rattle.model.specs.States.{HeapState}
 use Rattle.refinement.specs.Standing.{KeepsStanding}
-use Rattle.managed.specs.Collecting.{Crosses, StopsCrossing}
+use Rattle.managed.specs.Collecting.{Crosses, EndsCrossing, StopsCrossing}
 use Rattle.managed.specs.Emptying.{Protects}
 use Rattle.managed.specs.Goings.{Goes, IsScrub, Steps}
 use Rattle.managed.proofs.Gathering.{crossings_collect}
@@ -24,7 +24,7 @@ use Rattle.collecting.specs.declared.words.LiveWords.{LiveWords}
 use Rattle.collecting.specs.declared.parts.Stage.{Stage}
 use Rattle.collecting.specs.declared.parts.Stage.TheVariants as stages
 use Rattle.collecting.specs.Collections.{WORKER, Collects, EndsLeft}
-use Rattle.collecting.specs.Parts.{EndsCrossing, EndsPortion, EndsProtecting, EndsStage, Stops, StopsAt}
+use Rattle.collecting.specs.Parts.{EndsPortion, EndsProtecting, EndsStage, Stops, StopsAt}
 use Rattle.collecting.specs.Parts.{is_memory}
 use Rattle.collecting.specs.Parts.{Crossing, Emptying}
 use Rattle.collecting.specs.Stages.{PartsState, at_stage, no_words, passed, with_copied, EndsMarking, MarksOn}
@@ -64,35 +64,35 @@ stopped_crossing h g e k = stops_here h g e (crossings_collect WORKER h g k.0) (
 crosses_goes : (h g : HeapState) → Crosses WORKER h g → Collects h g
 crosses_goes h g k = crossings_collect WORKER h g k.0
 
-pub crossed_all : (g h : HeapState) (r : Result Unit Refusal) (u : Unit {0}) → r ≡ Ok u → EndsCrossing h r g
+pub crossed_all : (g h : HeapState) (r : Result Unit Refusal) (u : Unit {0}) → r ≡ Ok u → EndsCrossing WORKER h r g
     → all_crossed g ≡ Ok tt
 crossed_all g h r u is k =
-    let c : EndsCrossing h (Ok u) g = subst (λ (x : Result Unit Refusal). EndsCrossing h x g) is k in c.1
+    let c : EndsCrossing WORKER h (Ok u) g = subst (λ (x : Result Unit Refusal). EndsCrossing WORKER h x g) is k in c.1
 
-pub crossed_on : (h g : HeapState) (r : Result Unit Refusal) (u : Unit {0}) → r ≡ Ok u → EndsCrossing h r g
+pub crossed_on : (h g : HeapState) (r : Result Unit Refusal) (u : Unit {0}) → r ≡ Ok u → EndsCrossing WORKER h r g
     → EndsCrossed h (Ok false) g
-crossed_on h g r u is k = (refl, subst (λ (x : Result Unit Refusal). EndsCrossing h x g) is k)
+crossed_on h g r u is k = (refl, subst (λ (x : Result Unit Refusal). EndsCrossing WORKER h x g) is k)
 
-pub crossed_stops : (h g : HeapState) (r : Result Unit Refusal) (e : Refusal) → r ≡ Err e → EndsCrossing h r g
+pub crossed_stops : (h g : HeapState) (r : Result Unit Refusal) (e : Refusal) → r ≡ Err e → EndsCrossing WORKER h r g
     → StopsCrossing WORKER h e g
-crossed_stops h g r e is k = subst (λ (x : Result Unit Refusal). EndsCrossing h x g) is k
+crossed_stops h g r e is k = subst (λ (x : Result Unit Refusal). EndsCrossing WORKER h x g) is k
 
-pub crossed_portion : (h g : HeapState) (r : Result Unit Refusal) → EndsCrossing h r g → EndsPortion h r g
+pub crossed_portion : (h g : HeapState) (r : Result Unit Refusal) → EndsCrossing WORKER h r g → EndsPortion h r g
 crossed_portion h g (Ok u) k = crosses_goes h g k
 crossed_portion h g (Err e) k = stopped_crossing h g e k
 
 -- ---- a page
 
 pub one_then : (h m g : HeapState) (n : ℕ) (c : Result Unit Refusal) (u : Unit {0}) (r : Result Unit Refusal) → c ≡ Ok u
-    → EndsCrossing h c m → EndsLeft m n r g → EndsOne h n r g
-one_then h m g n c u (Ok v) is a k = (m, subst (λ (x : Result Unit Refusal). EndsCrossing h x m) is a, k)
+    → EndsCrossing WORKER h c m → EndsLeft m n r g → EndsOne h n r g
+one_then h m g n c u (Ok v) is a k = (m, subst (λ (x : Result Unit Refusal). EndsCrossing WORKER h x m) is a, k)
 one_then h m g n c u (Err e) is a k =
-    let first : Crosses WORKER h m = subst (λ (x : Result Unit Refusal). EndsCrossing h x m) is a in
+    let first : Crosses WORKER h m = subst (λ (x : Result Unit Refusal). EndsCrossing WORKER h x m) is a in
     let goes : Collects h m = crosses_goes h m first in
     (and_then h m g goes k.0, (m, goes, Emptying n k.1))
 
-pub one_stops : (h g : HeapState) (n : ℕ) (c : Result Unit Refusal) (e : Refusal) → c ≡ Err e → EndsCrossing h c g
-    → EndsOne h n (Err e) g
+pub one_stops : (h g : HeapState) (n : ℕ) (c : Result Unit Refusal) (e : Refusal) → c ≡ Err e
+    → EndsCrossing WORKER h c g → EndsOne h n (Err e) g
 one_stops h g n c e is k = stopped_crossing h g e (crossed_stops h g c e is k)
 
 pub empties_none : (p q : PartsState) (h : HeapState) (o : Option ℕ) → o ≡ slice_get p.chosen p.next → o ≡ None

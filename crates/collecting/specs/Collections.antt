@@ -1,5 +1,5 @@
 -- Complete collections.
-use Rattle.std.specs.Prelude.{◌≡◌, ◌⊎◌, ◌||◌, ℕ, Bool, true, false, List, [], ◌∷◌, length, Result, Ok, Err}
+use Rattle.std.specs.Prelude.{◌≡◌, ◌||◌, ℕ, Bool, true, false, List, [], ◌∷◌, length, Result, Ok, Err}
 use Rattle.std.specs.List.{list_any}
 use Rattle.choosing.specs.Choices.{IsChoice, all_words, words_on}
 use Rattle.model.specs.declared.records.Page.{Page}
@@ -9,8 +9,9 @@ use Rattle.model.specs.Phases.{is_crossing, is_marking}
 use Rattle.model.specs.States.{HeapState}
 use Rattle.model.specs.Stores.{state_at, is_from}
 use Rattle.managed.specs.Goings.{Goes}
-use Rattle.managed.specs.Collecting.{IsCollecting, StopsCrossing, EndsMark, EndsRest}
-use Rattle.managed.specs.Emptying.{PagesFreed, StopsPage, Protects, EndsEmptying}
+use Rattle.managed.specs.Sequences.{Then}
+use Rattle.managed.specs.Collecting.{IsCollecting, EndsCrossing, EndsMark, EndsRest}
+use Rattle.managed.specs.Emptying.{StopsPage, EndsEmptying}
 use Rattle.collecting.specs.declared.collecting.Collected.{Collected}
 
 -- the worker that collects
@@ -20,12 +21,6 @@ WORKER = 0
 -- steps of a collection lead from heap h to g
 abbrev pub Collects : HeapState → HeapState → Type 0
 Collects h g = Goes (IsCollecting WORKER) h g
-
--- P, and then Q, which takes the result of P; or one of them failed with e, and nothing more was done
-abbrev pub Then : {A B : Type 0} → (HeapState → Result A Refusal → HeapState → Type 0)
-    → (A → HeapState → Result B Refusal → HeapState → Type 0) → HeapState → Result B Refusal → HeapState → Type 0
-Then {A = A} P Q h (Ok y) g = (m : HeapState) × (x : A) × P h (Ok x) m × Q x m (Ok y) g
-Then {A = A} P Q h (Err e) g = P h (Err e) g ⊎ ((m : HeapState) × (x : A) × P h (Ok x) m × Q x m (Err e) g)
 
 -- some page is being emptied, and has memory
 abbrev pub has_from : List Page → Bool
@@ -67,15 +62,9 @@ abbrev pub EndsLeftPages : HeapState → Result Unit Refusal → HeapState → T
 EndsLeftPages h (Ok u) g = Settles h g
 EndsLeftPages h (Err e) g = Collects h g × ((m : HeapState) × (n : ℕ) × Collects h m × StopsLeft m n e g)
 
--- the rest of an earlier collection failed with e: while threads cross, or at a page
-abbrev pub StopsSettling : HeapState → Refusal → HeapState → Type 0
-StopsSettling h e g =
-    StopsCrossing WORKER h e g ⊎ ((m : HeapState) × (n : ℕ) × Collects h m × StopsLeft m n e g)
-
--- how the rest of an earlier collection ended
+-- how the rest of an earlier collection ended: all threads cross, and then the pages that it left are emptied
 abbrev pub EndsSettling : HeapState → Result Unit Refusal → HeapState → Type 0
-EndsSettling h (Ok u) g = Settles h g
-EndsSettling h (Err e) g = Collects h g × StopsSettling h e g
+EndsSettling h result g = Then (EndsCrossing WORKER) (λ (u : Unit {0}). EndsLeftPages) h result g
 
 -- how the mark ended that is due: the rest of the one that runs, else a complete one
 abbrev pub EndsDue : Bool → HeapState → Result ℕ Refusal → HeapState → Type 0
@@ -86,15 +75,15 @@ EndsDue false h result g = EndsMark WORKER h result g
 abbrev pub EndsDueMark : HeapState → Result ℕ Refusal → HeapState → Type 0
 EndsDueMark h result g = EndsDue (is_marking h.phase) h result g
 
--- chosen pages were emptied; if none was chosen, nothing was done
-abbrev pub EmptiesChosen : HeapState → List ℕ → HeapState → Type 0
-EmptiesChosen h [] g = g ≡ h
-EmptiesChosen h (n ∷ ns) g = (m : HeapState) × Protects WORKER h (n ∷ ns) m × PagesFreed WORKER m (n ∷ ns) g
+-- how the emptying of chosen pages ended; if none was chosen, nothing was done
+abbrev pub EmptiesChosen : HeapState → List ℕ → Result Unit Refusal → HeapState → Type 0
+EmptiesChosen h [] result g = (result ≡ Ok tt) × (g ≡ h)
+EmptiesChosen h (n ∷ ns) result g = EndsEmptying WORKER h (n ∷ ns) result g
 
--- how the emptying of chosen pages ended, and how many they were
+-- EmptiesChosen, and how many pages they were
 abbrev pub EndsChosen : HeapState → List ℕ → Result ℕ Refusal → HeapState → Type 0
-EndsChosen h ns (Ok k) g = Collects h g × (k ≡ length ns) × EmptiesChosen h ns g
-EndsChosen h ns (Err e) g = Collects h g × EndsEmptying WORKER h ns (Err e) g
+EndsChosen h ns (Ok k) g = (k ≡ length ns) × EmptiesChosen h ns (Ok tt) g
+EndsChosen h ns (Err e) g = EmptiesChosen h ns (Err e) g
 
 -- EndsChosen, with the number of live objects that a mark has found, and the words that were measured
 abbrev pub EndsChoice : ℕ → ℕ → ℕ → HeapState → List ℕ → Result Collected Refusal → HeapState → Type 0
@@ -102,39 +91,25 @@ EndsChoice live live_words copied h ns (Ok r) g =
     (r.live ≡ live) × (r.live_words ≡ live_words) × (r.copied ≡ copied) × EndsChosen h ns (Ok r.emptied) g
 EndsChoice live live_words copied h ns (Err e) g = EndsChosen h ns (Err e) g
 
--- pages of heap h were chosen, and emptied: how many they were, how many words their live objects had, and how many
--- words lived in all pages of heap h
-abbrev pub EmptiesSparse : ℕ → HeapState → Collected → HeapState → Type 0
-EmptiesSparse percent h r g = (ns : List ℕ) × IsChoice h percent ns × (r.emptied ≡ length ns) × EmptiesChosen h ns g
-    × (r.copied ≡ words_on h ns) × (r.live_words ≡ all_words h)
+-- how the choice of pages ended: with these pages, or there was no memory for it; in both cases nothing was done
+abbrev pub EndsChoosing : ℕ → HeapState → Result (List ℕ) Refusal → HeapState → Type 0
+EndsChoosing percent h (Ok ns) g = IsChoice h percent ns × (g ≡ h)
+EndsChoosing percent h (Err e) g = (e ≡ refusals.Memory) × (g ≡ h)
 
--- there was no memory for the choice of pages, and nothing was done; or the emptying of the chosen pages failed with
--- e
-abbrev pub StopsSparse : ℕ → HeapState → Refusal → HeapState → Type 0
-StopsSparse percent h e g =
-    ((e ≡ refusals.Memory) × (g ≡ h))
-    ⊎ ((ns : List ℕ) × IsChoice h percent ns × EndsEmptying WORKER h ns (Err e) g)
-
--- how the choice and the emptying of pages ended after a mark that found `live` objects
+-- how the choice of pages and then their emptying ended, after a mark that found `live` objects; it returns how many
+-- words live in all pages as they are chosen, and how many of these in the chosen ones
 abbrev pub ChoosesAndEmpties : ℕ → ℕ → HeapState → Result Collected Refusal → HeapState → Type 0
-ChoosesAndEmpties percent live h (Ok r) g = (r.live ≡ live) × Collects h g × EmptiesSparse percent h r g
-ChoosesAndEmpties percent live h (Err e) g = Collects h g × StopsSparse percent h e g
+ChoosesAndEmpties percent live h result g =
+    Then (EndsChoosing percent) (λ (ns : List ℕ) (m : HeapState). EndsChoice live (all_words m) (words_on m ns) m ns)
+    h result g
 
 -- a mark, and the choice and the emptying of pages after it
 abbrev pub MarksAndEmpties : ℕ → HeapState → Result Collected Refusal → HeapState → Type 0
 MarksAndEmpties percent h result g = Then EndsDueMark (ChoosesAndEmpties percent) h result g
 
--- its steps, and how it ended
-abbrev pub EndsCycle : ℕ → HeapState → Result Collected Refusal → HeapState → Type 0
-EndsCycle percent h result g = Collects h g × MarksAndEmpties percent h result g
-
 -- how a collection ended: the rest of an earlier one was finished, and then a mark, and pages were emptied
 abbrev pub EndsCollecting : ℕ → HeapState → Result Collected Refusal → HeapState → Type 0
 EndsCollecting percent h result g = Then EndsSettling (λ (u : Unit {0}). MarksAndEmpties percent) h result g
-
--- the steps of a collection, and how it ended
-abbrev pub CollectsWhole : ℕ → HeapState → Result Collected Refusal → HeapState → Type 0
-CollectsWhole percent h result g = Collects h g × EndsCollecting percent h result g
 
 -- how the rest of an earlier collection ended, and a mark after it
 abbrev pub SettlesAndMarks : HeapState → Result ℕ Refusal → HeapState → Type 0
@@ -143,10 +118,6 @@ SettlesAndMarks h result g = Then EndsSettling (λ (u : Unit {0}). EndsDueMark) 
 -- the rest of an earlier collection was finished, and then a mark has ended, which found `live` objects
 abbrev pub HasMarked : HeapState → ℕ → HeapState → Type 0
 HasMarked h live g = SettlesAndMarks h (Ok live) g
-
--- the steps of both, and how they ended
-abbrev pub MarksWhole : HeapState → Result ℕ Refusal → HeapState → Type 0
-MarksWhole h result g = Collects h g × SettlesAndMarks h result g
 
 -- the error is that there are too few frames or pages
 abbrev pub lacks_room : Refusal → Bool

@@ -15,7 +15,7 @@ use Rattle.collecting.specs.declared.collecting.Collected.{Collected}
 use Rattle.collecting.specs.declared.counting.Cause.{Cause}
 use Rattle.collecting.specs.declared.counting.Cause.TheVariants as causes
 use Rattle.collecting.specs.declared.counting.Counters.{Counters}
-use Rattle.collecting.specs.Collections.{CollectsWhole, lacks_room}
+use Rattle.collecting.specs.Collections.{EndsCollecting, lacks_room}
 use Rattle.collecting.specs.Low.{are_low}
 use Rattle.collecting.specs.Pacing.{has_begun, is_emptying, is_urgent, lacks_buffer, most_parts, stops}
 use Rattle.collecting.specs.Stages.{PartGoesOn, PartsState, is_preparing}
@@ -112,7 +112,7 @@ TakesOnly t h g = Goes (IsTake t) h g
 -- a complete collection of heap h was counted
 abbrev pub HasCounted : Cause → ℕ → HeapState → Counters → Counters → Type 0
 HasCounted cause percent h old new =
-    (r : Result Collected Refusal) × (g : HeapState) × CollectsWhole percent h r g × (new ≡ counted cause r old)
+    (r : Result Collected Refusal) × (g : HeapState) × EndsCollecting percent h r g × (new ≡ counted cause r old)
 
 -- there is no space for n words of thread t
 abbrev pub LacksRoom : ℕ → ℕ → HeapState → Type 0

@@ -12,7 +12,7 @@ use Rattle.model.specs.Refusing.{DoesStep}
 use Rattle.model.specs.Scans.{next_drain}
 use Rattle.model.specs.States.{HeapState}
 use Rattle.managed.specs.Goings.{Goes, IsScan, EndsScan}
-use Rattle.managed.specs.Collecting.{Crosses, StopsCrossing}
+use Rattle.managed.specs.Collecting.{StopsCrossing}
 use Rattle.managed.specs.Emptying.{Protects}
 use Rattle.collecting.specs.Collections.{WORKER, Collects, StopsLeft, has_from}
 
@@ -70,11 +70,6 @@ EndsStage h (Err e) g = Stops h e g ⊎ LacksMemory h e g
 abbrev pub is_memory : Refusal → Bool
 is_memory refusals.Memory = true
 is_memory _ = false
-
--- how crossings ended
-abbrev pub EndsCrossing : HeapState → Result Unit Refusal → HeapState → Type 0
-EndsCrossing h (Ok u) g = Crosses WORKER h g
-EndsCrossing h (Err e) g = StopsCrossing WORKER h e g
 
 -- how the protection of pages ended
 abbrev pub EndsProtecting : HeapState → List ℕ → Result Unit Refusal → HeapState → Type 0

@@ -3,7 +3,7 @@
 ghost use Rattle.std.specs.Prelude.{◌≡◌, IfOk, false};
 ghost use Rattle.model.specs.Phases.{is_protect_crossing};
 ghost use Rattle.managed.specs.Scrubbing.{AreScrubbed};
-ghost use Rattle.collecting.specs.Collections.{CollectsWhole};
+ghost use Rattle.collecting.specs.Collections.{EndsCollecting};
 ghost use Rattle.collecting.specs.Counting.{begun, counted, ended, no_counts, part_counted, part_done, result_counted};
 ghost use Rattle.collecting.specs.Counting.{seen_in_use, words_counted};
 ghost use Rattle.collecting.specs.Parts.{EndsPart};
@@ -166,7 +166,7 @@ pub(crate) fn collect_counted<M: Marking>(
     by: &M,
 ) -> Result<Collected, Refusal>
     requires { M.may_mark by.now }
-    ensures ends { CollectsWhole percent heap.old result heap.new }
+    ensures ends { EndsCollecting percent heap.old result heap.new }
     ensures scrubbed { IfOk result (λ collected. AreScrubbed heap.new) }
     ensures counts { counters.new ≡ counted cause result counters.old }
 {

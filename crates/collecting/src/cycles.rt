@@ -2,8 +2,8 @@
 
 ghost use Rattle.std.specs.Prelude.{◌≡◌, IfOk, true};
 ghost use Rattle.managed.specs.Scrubbing.{AreScrubbed, needs_no_scrub};
-ghost use Rattle.collecting.specs.Collections.{ChoosesAndEmpties, Collects, CollectsWhole, EndsChoice, EndsChosen};
-ghost use Rattle.collecting.specs.Collections.{EndsCycle, EndsDueMark, MarksWhole};
+ghost use Rattle.collecting.specs.Collections.{ChoosesAndEmpties, Collects, EndsChoice, EndsChosen, EndsCollecting};
+ghost use Rattle.collecting.specs.Collections.{EndsDueMark, MarksAndEmpties, SettlesAndMarks};
 
 use crate::collecting::Collected;
 use crate::leftovers::settle;
@@ -30,7 +30,7 @@ fn mark_due<M: Marking>(heap: &mut ManagedHeap, by: &M) -> Result<u64, Refusal>
 /// live.
 pub(crate) fn mark_whole<M: Marking>(heap: &mut ManagedHeap, by: &M) -> Result<u64, Refusal>
     requires { M.may_mark by.now }
-    ensures { MarksWhole heap.old result heap.new }
+    ensures { SettlesAndMarks heap.old result heap.new }
 {
     match settle(heap) {
         Ok(()) => mark_due(heap, by),
@@ -97,7 +97,7 @@ fn run_cycle<M: Marking>(
     by: &M,
 ) -> Result<Collected, Refusal>
     requires { M.may_mark by.now }
-    ensures ends { EndsCycle percent heap.old result heap.new }
+    ensures ends { MarksAndEmpties percent heap.old result heap.new }
     ensures scrubbed { IfOk result (λ collected. AreScrubbed heap.new) }
 {
     match mark_due(heap, by) {
@@ -114,7 +114,7 @@ pub(crate) fn collect_whole<M: Marking>(
     by: &M,
 ) -> Result<Collected, Refusal>
     requires { M.may_mark by.now }
-    ensures ends { CollectsWhole percent heap.old result heap.new }
+    ensures ends { EndsCollecting percent heap.old result heap.new }
     ensures scrubbed { IfOk result (λ collected. AreScrubbed heap.new) }
 {
     match settle(heap) {

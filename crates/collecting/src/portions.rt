@@ -6,8 +6,9 @@ ghost use Rattle.model.specs.declared.records.Phase.TheVariants as phases;
 ghost use Rattle.model.specs.Checkpoints.{all_crossed};
 ghost use Rattle.model.specs.Phases.{may_start_mark};
 ghost use Rattle.model.specs.Scans.{next_drain};
+ghost use Rattle.managed.specs.Collecting.{EndsCrossing};
 ghost use Rattle.collecting.specs.Collections.{EndsLeft, WORKER};
-ghost use Rattle.collecting.specs.Parts.{EndsCrossing, EndsPortion, EndsProtecting, EndsScanning};
+ghost use Rattle.collecting.specs.Parts.{EndsPortion, EndsProtecting, EndsScanning};
 ghost use Rattle.collecting.specs.Stages.{EndsMarking, EndsOne};
 
 use crate::leftovers::settle_page;
@@ -24,7 +25,7 @@ pub(crate) fn may_start_mark(phase: Phase) -> bool
 
 /// Has all threads cross the open checkpoint.
 pub(crate) fn cross(heap: &mut ManagedHeap) -> Result<(), Refusal>
-    ensures { EndsCrossing heap.old result heap.new }
+    ensures { EndsCrossing WORKER heap.old result heap.new }
 {
     heap.cross_all(0)
 }

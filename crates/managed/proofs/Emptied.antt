@@ -17,7 +17,6 @@ use Rattle.model.specs.declared.steps.Step.TheVariants as steps
 use Rattle.model.specs.declared.steps.Answer.{Answer}
 use Rattle.model.specs.declared.steps.Refusal.{Refusal}
 use Rattle.model.specs.Bits.{of_page}
-use Rattle.model.specs.Checkpoints.{all_crossed}
 use Rattle.model.specs.Cycles.{is_uncopied}
 use Rattle.model.specs.Emptying.{crossed_if_protecting}
 use Rattle.model.specs.Emptying.{release_outcome}
@@ -27,7 +26,7 @@ use Rattle.model.specs.Outcome.{outcome, worker_gate}
 use Rattle.model.specs.Owning.{IsStore}
 use Rattle.model.specs.Phases.{is_idle}
 use Rattle.model.specs.Protections.{free_count}
-use Rattle.model.specs.Refusing.{Outcome, DoesStep}
+use Rattle.model.specs.Refusing.{DoesStep}
 use Rattle.model.specs.States.{HeapState, change_at, change_found}
 use Rattle.model.specs.Stores.{StoreState, page_at, state_at, state_in, frame_in, is_from}
 use Rattle.model.proofs.Lists.{get_set_same, get_set_other, get_within, count_set}
@@ -36,13 +35,14 @@ use Rattle.page.proofs.Relocated.{from_framed, used_there}
 use Rattle.refinement.specs.Standing.{KeepsStanding}
 use Rattle.refinement.proofs.Changes.{get_changed}
 use Rattle.refinement.proofs.Accepted.{OnAccepted, of_accepted, on_bind, on_unless}
-use Rattle.managed.specs.Goings.{Goes, IsCrossing, IsScrub, AllTried}
-use Rattle.managed.specs.Collecting.{IsCollecting}
+use Rattle.managed.specs.Goings.{Goes, IsScrub}
+use Rattle.managed.specs.Sequences.{EndsStep}
+use Rattle.managed.specs.Collecting.{IsCollecting, EndsCrossing}
 use Rattle.managed.specs.Emptying.{IsBare, PageFreed, PagesFreed, EndsPage, EndsPages, StopsPages}
-use Rattle.managed.specs.Emptying.{EndsRelease, Empties, EmptiesProtected, whether_told}
+use Rattle.managed.specs.Emptying.{EndsRelease, EndsProtected, EndsEmptying, whether_told}
 use Rattle.managed.proofs.Going.{goes_none, goes_then}
-use Rattle.managed.proofs.Gathering.{collect_step, crossings_collect, scrubs_collect}
-use Rattle.managed.proofs.Running.{runs_one}
+use Rattle.managed.proofs.Gathering.{collect_step, crossing_goes, scrubs_collect}
+use Rattle.managed.proofs.Sequences.{step_ends, step_goes, then_goes}
 use Rattle.managed.proofs.Frames.{SameFrames, bare_same, copy_page_phase, copy_page_row, crossings_same_frames}
 use Rattle.managed.proofs.Frames.{free_same}
 use Rattle.managed.proofs.Frames.{scrubs_same_frames, state_same}
@@ -214,20 +214,10 @@ page_then w h m g n (Ok x) a (Ok u) is does keeps b =
       phase = b.phase ∙ of_accepted (λ (z : HeapState × Answer). z.0.phase ≡ h.phase)
           (outcome h (Worker w) (steps.CopyPage n)) (m, x) (copy_page_phase h w n) does;
     }
-page_then w h m g n (Ok x) a (Err e) is does keeps b =
-    subst (λ (z : HeapState). EndsPage w h n (Err e) z) (sym b.1) (
-      collect_step w h m (steps.CopyPage n) (Ok x) does keeps,
-      inr (m, x, runs_one h m (Worker w) (steps.CopyPage n) x does keeps, b.0, refl),
-    )
-
--- a page whose copies are refused
-pub page_stops : (w : ℕ) (h g : HeapState) (n : ℕ) (r : Result Answer Refusal) (e : Refusal) → r ≡ Err e
-    → DoesStep h (steps.CopyPage n) r g (outcome h (Worker w) (steps.CopyPage n)) → EndsPage w h n (Err e) g
-page_stops w h g n r e is does =
-    let d : DoesStep h (steps.CopyPage n) (Err e) g (outcome h (Worker w) (steps.CopyPage n)) =
-    subst (λ (r : Result Answer Refusal). DoesStep h (steps.CopyPage n) r g
-    (outcome h (Worker w) (steps.CopyPage n))) is does in
-    (subst (Goes (IsCollecting w) h) (sym d.1) (goes_none (IsCollecting w) h), inl d)
+page_then w h m g n (Ok x) a (Err e) is does keeps b = (
+  subst (Goes (IsCollecting w) h) (sym b.1) (collect_step w h m (steps.CopyPage n) (Ok x) does keeps),
+  inr (m, x, step_ends (Worker w) (steps.CopyPage n) h m (Ok x) does keeps, b),
+)
 
 -- the phase stays
 pub page_phase : (w : ℕ) (h m g : HeapState) (n : ℕ) (r : Result Unit Refusal) (u : Unit {0}) → r ≡ Ok u
@@ -328,55 +318,33 @@ pages_scrubbed w h m g ns (Ok v) u is a b =
       more = free_same m g same ∙ a.more;
     }
 
--- all threads cross before it
-pub pages_crossed : (w : ℕ) (h m g : HeapState) (ns : List ℕ) (c r : Result Unit Refusal) (u : Unit {0}) → c ≡ Ok u
-    → c ≡ all_crossed m → Goes (IsCrossing w) h m → EndsPages w m ns r g → EmptiesProtected w h ns r g
-pages_crossed w h m g ns c (Err e) u is all a b = (
-  goes_then (IsCollecting w) h m g (crossings_collect w h m a) b.goes,
-  inr (m, (a, sym all ∙ is), b),
-)
-pages_crossed w h m g ns c (Ok v) u is all a b =
-    let same = crossings_same_frames w h m a in
-    let goes = goes_then (IsCollecting w) h m g (crossings_collect w h m a) b.goes in (
-      goes,
-      record {
-        goes = goes;
-        bare = b.bare;
-        stay = λ k z. b.stay k (bare_same h m k same z);
-        more = b.more ∙ ap (λ (x : ℕ). x + length ns) (free_same h m same);
-      },
-    )
+-- ---- the steps of all of it
 
-pub pages_not_crossed : (w : ℕ) (h g : HeapState) (ns : List ℕ) (c : Result Unit Refusal) (e : Refusal) → c ≡ Err e
-    → c ≡ all_crossed g → Goes (IsCrossing w) h g → AllTried w c g → EmptiesProtected w h ns (Err e) g
-pages_not_crossed w h g ns c e is all a behind =
-    (crossings_collect w h g a, inl (a, sym all ∙ is, subst (λ (r : Result Unit Refusal). AllTried w r g) is behind))
+pages_goes : (w : ℕ) (ns : List ℕ) (h g : HeapState) (r : Result Unit Refusal) → EndsPages w h ns r g
+    → Goes (IsCollecting w) h g
+pages_goes w ns h g (Ok u) k = k.goes
+pages_goes w ns h g (Err e) k = k.goes
 
--- they are protected before it
-pub pages_protected : (w : ℕ) (h m g : HeapState) (ns : List ℕ) (r : Result Answer Refusal) (a : Answer)
-    (result : Result Unit Refusal) → r ≡ Ok a
-    → DoesStep h (steps.Protect ns) r m (outcome h (Worker w) (steps.Protect ns))
-    → KeepsStanding h (Worker w) (steps.Protect ns) r m → EmptiesProtected w m ns result g → Empties w h ns result g
-pages_protected w h m g ns (Err x) a result is does keeps b = absurd (cc)
-pages_protected w h m g ns (Ok x) a (Ok u) is does keeps b = (
-  goes_then (IsCollecting w) h m g (collect_step w h m (steps.Protect ns) (Ok x) does keeps) b.0,
-  (m, (x, runs_one h m (Worker w) (steps.Protect ns) x does keeps), b.1),
-)
-pages_protected w h m g ns (Ok x) a (Err e) is does keeps b = (
-  goes_then (IsCollecting w) h m g (collect_step w h m (steps.Protect ns) (Ok x) does keeps) b.0,
-  inr (m, (x, runs_one h m (Worker w) (steps.Protect ns) x does keeps), b.1),
-)
+pub protected_goes : (w : ℕ) (ns : List ℕ) (h g : HeapState) (r : Result Unit Refusal) → EndsProtected w h ns r g
+    → Goes (IsCollecting w) h g
+protected_goes w ns h g r k = then_goes (EndsCrossing w) (λ (u : Unit {0}) (m : HeapState). EndsPages w m ns)
+    (IsCollecting w) (crossing_goes w) (λ u. pages_goes w ns) h g r k
 
-refused_same : (h g : HeapState) (ns : List ℕ) (e : Refusal) (o : Outcome) → DoesStep h (steps.Protect ns) (Err e) g o
-    → g ≡ h
-refused_same h g ns e o does = grind arith
+pub emptying_goes : (w : ℕ) (ns : List ℕ) (h g : HeapState) (r : Result Unit Refusal) → EndsEmptying w h ns r g
+    → Goes (IsCollecting w) h g
+emptying_goes w ns h g r k = then_goes (EndsStep (Worker w) (steps.Protect ns))
+    (λ (a : Answer) (m : HeapState). EndsProtected w m ns) (IsCollecting w)
+    (step_goes (IsCollecting w) (Worker w) (steps.Protect ns) refl) (λ a. protected_goes w ns) h g r k
 
-pub pages_not_protected : (w : ℕ) (h g : HeapState) (ns : List ℕ) (r : Result Answer Refusal) (e : Refusal) → r ≡ Err e
-    → DoesStep h (steps.Protect ns) r g (outcome h (Worker w) (steps.Protect ns)) → Empties w h ns (Err e) g
-pages_not_protected w h g ns r e is does =
-    let d : DoesStep h (steps.Protect ns) (Err e) g (outcome h (Worker w) (steps.Protect ns)) =
-    subst (λ (r : Result Answer Refusal). DoesStep h (steps.Protect ns) r g
-    (outcome h (Worker w) (steps.Protect ns))) is does in (
-      subst (Goes (IsCollecting w) h) (sym (refused_same h g ns e _ d)) (goes_none (IsCollecting w) h),
-      inl d,
-    )
+-- protected pages that were emptied: crossings leave all frames as they are
+pub protected_freed : (w : ℕ) (ns : List ℕ) (h g : HeapState) (u : Unit {0}) → EndsProtected w h ns (Ok u) g
+    → PagesFreed w h ns g
+protected_freed w ns h g u k =
+    let m = k.0 in
+    let same = crossings_same_frames w h m k.2.0 in
+    record {
+      goes = protected_goes w ns h g (Ok u) k;
+      bare = k.3.bare;
+      stay = λ i z. k.3.stay i (bare_same h m i same z);
+      more = k.3.more ∙ ap (λ (x : ℕ). x + length ns) (free_same h m same);
+    }

@@ -1,5 +1,5 @@
 -- Collections, from one step to the next.
-use Rattle.std.proofs.Common.{◌≡◌, ◌∙◌, ℕ, List, [], ◌∷◌, refl, sym, subst, inl, inr}
+use Rattle.std.proofs.Common.{◌≡◌, ◌∙◌, ℕ, List, [], ◌∷◌, refl, sym, subst}
 use Rattle.std.specs.Prelude.{Result, Ok, Err}
 use Rattle.layout.specs.declared.shape.Layout.{Layout}
 use Rattle.model.specs.declared.steps.Actor.{Actor}
@@ -8,19 +8,20 @@ use Rattle.model.specs.declared.steps.Step.{Step}
 use Rattle.model.specs.declared.steps.Step.TheVariants as steps
 use Rattle.model.specs.declared.steps.Answer.{Answer}
 use Rattle.model.specs.declared.steps.Refusal.{Refusal}
+use Rattle.model.specs.Checkpoints.{all_crossed}
 use Rattle.model.specs.Refusing.{DoesStep}
 use Rattle.model.specs.Outcome.{outcome}
 use Rattle.model.specs.Plain.{PlainHeap, plain_step}
 use Rattle.model.specs.States.{HeapState}
-use Rattle.refinement.specs.Standing.{Holds, KeepsStanding}
+use Rattle.refinement.specs.Standing.{Holds, FindsLive, KeepsStanding}
 use Rattle.entries.specs.declared.entry.Entry.{Entry}
 use Rattle.cycle.specs.Replays.{Replayed, after_entry, after_entries}
-use Rattle.managed.specs.Goings.{EachIs, Goes, IsScan, IsDrain, IsCrossing, IsScrub, EndsDrain, AllTried}
-use Rattle.managed.specs.Collecting.{IsCollecting, StandsUnseen, EndsWell, EndsHere, live_told}
-use Rattle.managed.specs.Collecting.{Marks, MarksRest, MarksScanned}
-use Rattle.model.specs.Checkpoints.{all_crossed}
-use Rattle.managed.proofs.Going.{goes_none, goes_step, goes_then}
-use Rattle.managed.proofs.Running.{runs_one}
+use Rattle.managed.specs.Goings.{EachIs, Goes, IsScan, IsDrain, IsCrossing, IsScrub, AllTried}
+use Rattle.managed.specs.Sequences.{EndsStep}
+use Rattle.managed.specs.Collecting.{IsCollecting, StandsUnseen, EndsCrossing, EndsDraining, EndsHere, EndsScanned}
+use Rattle.managed.specs.Collecting.{EndsRest, EndsMark, live_told}
+use Rattle.managed.proofs.Going.{goes_none, goes_step}
+use Rattle.managed.proofs.Sequences.{step_ends, step_goes, then_goes}
 
 each_wider : (P Q : Actor → Step → Type 0) → ((actor : Actor) (step : Step) → P actor step → Q actor step)
     → (es : List Entry) → EachIs P es → EachIs Q es
@@ -111,84 +112,49 @@ pub end_here : (w : ℕ) (h g : HeapState) (reply : Result Answer Refusal) (resu
     → result ≡ live_told reply → DoesStep h steps.EndMark reply g (outcome h (Worker w) steps.EndMark)
     → KeepsStanding h (Worker w) steps.EndMark reply g → EndsHere w h result g
 unfolding plain_step
-end_here w h g (Ok a) result told does keeps = subst (λ (r : Result ℕ Refusal). EndsHere w h r g) (sym told) (
-  collect_step w h g steps.EndMark (Ok a) does keeps,
-  record {
-    before = h;
-    answer = a;
-    goes = goes_none (IsCollecting w) h;
-    last = does;
-    told = refl;
-    finds = λ p p0 k. (p0, (keeps p p0 k).stands.holds, (keeps p p0 k).finds);
-  },
-)
+end_here w h g (Ok a) result told does keeps = subst (λ (r : Result ℕ Refusal). EndsHere w h r g) (sym told) (record {
+  answer = a;
+  last = step_ends (Worker w) steps.EndMark h g (Ok a) does keeps;
+  told = refl;
+  finds = λ p p0 k. (p0, (keeps p p0 k).stands.holds, (keeps p p0 k).finds);
+})
 end_here w h g (Err e) result told does keeps = subst (λ (r : Result ℕ Refusal). EndsHere w h r g) (sym told) does
 
--- what comes before the end of a mark that has ended
-well_after : (w : ℕ) (h m g : HeapState) (live : ℕ) → Goes (IsCollecting w) h m → EndsWell w m live g
-    → EndsWell w h live g
-well_after w h m g live a b = record {
-  before = b.before;
-  answer = b.answer;
-  goes = goes_then (IsCollecting w) h m b.before a b.goes;
-  last = b.last;
-  told = b.told;
-  finds = λ p p0 k. let s = (collected w h m a).same p p0 k in b.finds p s.0 s.1;
-}
+-- how all threads crossed, by what `cross_all` ensures
+pub crossing_ends : (w : ℕ) (h g : HeapState) (c : Result Unit Refusal) → c ≡ all_crossed g → Goes (IsCrossing w) h g
+    → AllTried w c g → EndsCrossing w h c g
+crossing_ends w h g (Ok u) all a behind = (a, sym all)
+crossing_ends w h g (Err e) all a behind = (a, sym all, behind)
 
--- a drain, and then the end
-pub scanned_then : (w : ℕ) (h m g : HeapState) (d : Result Unit Refusal) (u : Unit {0}) (result : Result ℕ Refusal)
-    → d ≡ Ok u → Goes (IsDrain w) h m → EndsDrain w h d m → EndsHere w m result g → MarksScanned w h result g
-scanned_then w h m g d u (Ok live) is a ends b =
-    let k = drains_collect w h m a in
-    (goes_then (IsCollecting w) h m g k b.0, well_after w h m g live k b.1)
-scanned_then w h m g d u (Err e) is a ends b = subst (λ (x : HeapState). MarksScanned w h (Err e) x) (sym b.1) (
-  drains_collect w h m a,
-  (a, inr (subst (λ (r : Result Unit Refusal). EndsDrain w h r m) is ends, b.0)),
-)
+-- ---- the steps of each part are a collection's
 
--- a drain that stopped
-pub scanned_stops : (w : ℕ) (h g : HeapState) (e : Refusal) (d : Result Unit Refusal) → d ≡ Err e
-    → Goes (IsDrain w) h g → EndsDrain w h d g → MarksScanned w h (Err e) g
-scanned_stops w h g e d is a ends =
-    (drains_collect w h g a, (a, inl (subst (λ (r : Result Unit Refusal). EndsDrain w h r g) is ends)))
+pub crossing_goes : (w : ℕ) (h g : HeapState) (c : Result Unit Refusal) → EndsCrossing w h c g
+    → Goes (IsCollecting w) h g
+crossing_goes w h g (Ok u) k = crossings_collect w h g k.0
+crossing_goes w h g (Err e) k = crossings_collect w h g k.0
 
--- all threads cross, and then the rest of a mark
-pub crossed_then : (w : ℕ) (h m g : HeapState) (c : Result Unit Refusal) (u : Unit {0}) (result : Result ℕ Refusal)
-    → c ≡ Ok u → c ≡ all_crossed m → Goes (IsCrossing w) h m → MarksScanned w m result g → MarksRest w h result g
-crossed_then w h m g c u (Ok live) is all a b =
-    let k = crossings_collect w h m a in
-    (goes_then (IsCollecting w) h m g k b.0, well_after w h m g live k b.1)
-crossed_then w h m g c u (Err e) is all a b = (
-  goes_then (IsCollecting w) h m g (crossings_collect w h m a) b.0,
-  inr (m, (a, sym all ∙ is), b.1),
-)
+here_goes : (w : ℕ) (h g : HeapState) (r : Result ℕ Refusal) → EndsHere w h r g → Goes (IsCollecting w) h g
+here_goes w h g (Ok live) k = step_goes (IsCollecting w) (Worker w) steps.EndMark refl h g (Ok k.answer) k.last
+here_goes w h g (Err e) k = subst (Goes (IsCollecting w) h) (sym k.1) (goes_none (IsCollecting w) h)
 
--- crossings that stopped
-pub crossed_stops : (w : ℕ) (h g : HeapState) (e : Refusal) (c : Result Unit Refusal) → c ≡ Err e → c ≡ all_crossed g
-    → Goes (IsCrossing w) h g → AllTried w c g → MarksRest w h (Err e) g
-crossed_stops w h g e c is all a behind =
-    (crossings_collect w h g a, inl (a, sym all ∙ is, subst (λ (r : Result Unit Refusal). AllTried w r g) is behind))
+scanned_goes : (w : ℕ) (h g : HeapState) (r : Result ℕ Refusal) → EndsScanned w h r g → Goes (IsCollecting w) h g
+scanned_goes w h g r k = then_goes (EndsDraining w) (λ (u : Unit {0}). EndsHere w) (IsCollecting w)
+    (λ h m d a. drains_collect w h m a.0) (λ u. here_goes w) h g r k
 
--- a mark begins, and then its rest
-pub begun_then : (w : ℕ) (h m g : HeapState) (r : Result Answer Refusal) (a : Answer) (result : Result ℕ Refusal)
-    → r ≡ Ok a → DoesStep h steps.StartMark r m (outcome h (Worker w) steps.StartMark)
-    → KeepsStanding h (Worker w) steps.StartMark r m → MarksRest w m result g → Marks w h result g
-begun_then w h m g (Err x) a result is does keeps b = absurd (cc)
-begun_then w h m g (Ok x) a (Ok live) is does keeps b = (
-  goes_then (IsCollecting w) h m g (collect_step w h m steps.StartMark (Ok x) does keeps) b.0,
-  (m, (x, runs_one h m (Worker w) steps.StartMark x does keeps), b.1),
-)
-begun_then w h m g (Ok x) a (Err e) is does keeps b = (
-  goes_then (IsCollecting w) h m g (collect_step w h m steps.StartMark (Ok x) does keeps) b.0,
-  inr (m, (x, runs_one h m (Worker w) steps.StartMark x does keeps), b.1),
-)
+pub rest_goes : (w : ℕ) (h g : HeapState) (r : Result ℕ Refusal) → EndsRest w h r g → Goes (IsCollecting w) h g
+rest_goes w h g r k = then_goes (EndsCrossing w) (λ (u : Unit {0}). EndsScanned w) (IsCollecting w)
+    (crossing_goes w) (λ u. scanned_goes w) h g r k
 
--- a mark that doesn't begin
-pub begun_stops : (w : ℕ) (h g : HeapState) (r : Result Answer Refusal) (e : Refusal) → r ≡ Err e
-    → DoesStep h steps.StartMark r g (outcome h (Worker w) steps.StartMark) → Marks w h (Err e) g
-begun_stops w h g r e is does =
-    let d : DoesStep h steps.StartMark (Err e) g (outcome h (Worker w) steps.StartMark) =
-    subst (λ (r : Result Answer Refusal). DoesStep h steps.StartMark r g (outcome h (Worker w) steps.StartMark)) is
-    does in
-    (subst (Goes (IsCollecting w) h) (sym d.1) (goes_none (IsCollecting w) h), inl d)
+pub mark_goes : (w : ℕ) (h g : HeapState) (r : Result ℕ Refusal) → EndsMark w h r g → Goes (IsCollecting w) h g
+mark_goes w h g r k = then_goes (EndsStep (Worker w) steps.StartMark) (λ (a : Answer). EndsRest w) (IsCollecting w)
+    (step_goes (IsCollecting w) (Worker w) steps.StartMark refl) (λ a. rest_goes w) h g r k
+
+-- the rest of a mark finds all live objects of each reference model that the heap represents before it
+pub rest_finds : (w : ℕ) (h g : HeapState) (live : ℕ) → EndsRest w h (Ok live) g → (p p0 : PlainHeap) → Holds h p p0
+    → (q0 : PlainHeap) × Holds g p q0 × FindsLive g p q0
+rest_finds w h g live k p p0 holds =
+    let m = k.0 in
+    let n = k.3.0 in
+    let crossed = (collected w h m (crossing_goes w h m (Ok k.1) k.2)).same p p0 holds in
+    let drained = (collected w m n (drains_collect w m n k.3.2.0)).same p crossed.0 crossed.1 in
+    k.3.3.finds p drained.0 drained.1

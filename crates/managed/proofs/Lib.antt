@@ -1,6 +1,7 @@
 pub mod AtOnce
 pub mod Running
 pub mod Going
+pub mod Sequences
 pub mod Gathering
 pub mod Draining
 pub mod Counting

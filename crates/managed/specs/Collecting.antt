@@ -1,5 +1,5 @@
 -- Steps that leave the reference model as it is.
-use Rattle.std.specs.Prelude.{◌≡◌, ◌⊎◌, ℕ, None, Result, Ok, Err}
+use Rattle.std.specs.Prelude.{◌≡◌, ℕ, Result, Ok, Err}
 use Rattle.model.specs.declared.steps.Actor.{Actor}
 use Rattle.model.specs.declared.steps.Actor.TheVariants.{Thread, Worker}
 use Rattle.model.specs.declared.steps.Step.{Step}
@@ -12,8 +12,8 @@ use Rattle.model.specs.Outcome.{outcome}
 use Rattle.model.specs.Plain.{PlainHeap}
 use Rattle.model.specs.States.{HeapState}
 use Rattle.refinement.specs.Standing.{Holds, FindsLive}
-use Rattle.model.specs.Scans.{next_drain}
 use Rattle.managed.specs.Goings.{Goes, Steps, IsDrain, IsCrossing, IsBehind, EndsDrain}
+use Rattle.managed.specs.Sequences.{Then, EndsStep}
 
 -- a step of a collection: any of worker w, and of any thread to cross or to scrub
 abbrev pub IsCollecting : ℕ → Actor → Step → Type 0
@@ -36,14 +36,12 @@ abbrev pub live_told : Result Answer Refusal → Result ℕ Refusal
 live_told (Ok a) = Ok (live_in a)
 live_told (Err e) = Err e
 
--- a mark has ended: its last step was EndMark, which returned how many objects live; and if heap h represents a
--- reference model, g represents the same one, all that can be reached is live, and what is live could be reached as
--- the mark began, or is born since
+-- a mark was ended by EndMark, which returned how many objects live; and if heap h represents a reference model, g
+-- represents the same one, all that can be reached is live, and what is live could be reached as the mark began, or is
+-- born since
 pub record EndsWell (w : ℕ) (h : HeapState) (live : ℕ) (g : HeapState) : Type 0 where
-  pub before : HeapState
   pub answer : Answer
-  pub goes : Goes (IsCollecting w) h before
-  pub last : outcome before (Worker w) steps.EndMark ≡ Ok (g, answer)
+  pub last : Steps (Worker w) steps.EndMark answer h g
   pub told : live ≡ live_in answer
   pub finds : (p p0 : PlainHeap) → Holds h p p0 → (q0 : PlainHeap) × Holds g p q0 × FindsLive g p q0
 
@@ -55,51 +53,28 @@ Crosses w h g = Goes (IsCrossing w) h g × (all_crossed g ≡ Ok tt)
 abbrev pub StopsCrossing : ℕ → HeapState → Refusal → HeapState → Type 0
 StopsCrossing w h e g = Goes (IsCrossing w) h g × (all_crossed g ≡ Err e) × IsBehind w g e
 
--- the rest of a mark that all threads have crossed failed with e: the next step of its drain is rejected, or too
--- much was left; or nothing was left, and EndMark is rejected
-abbrev pub StopsScanning : ℕ → HeapState → Refusal → HeapState → Type 0
-StopsScanning w h e g =
-    Goes (IsDrain w) h g
-    × (EndsDrain w h (Err e) g ⊎ ((next_drain g w ≡ None) × (outcome g (Worker w) steps.EndMark ≡ Err e)))
+-- how the crossing of all threads ended: all have crossed, or a thread is left that can't cross
+abbrev pub EndsCrossing : ℕ → HeapState → Result Unit Refusal → HeapState → Type 0
+EndsCrossing w h (Ok u) g = Crosses w h g
+EndsCrossing w h (Err e) g = StopsCrossing w h e g
 
--- how the rest of a mark that all threads have crossed ended
-abbrev pub EndsScanned : ℕ → HeapState → Result ℕ Refusal → HeapState → Type 0
-EndsScanned w h (Ok live) g = EndsWell w h live g
-EndsScanned w h (Err e) g = StopsScanning w h e g
+-- the steps of a drain, and how it ended
+abbrev pub EndsDraining : ℕ → HeapState → Result Unit Refusal → HeapState → Type 0
+EndsDraining w h result g = Goes (IsDrain w) h g × EndsDrain w h result g
 
--- the rest of a mark that has begun failed with e: while threads cross, or after they have
-abbrev pub StopsMarking : ℕ → HeapState → Refusal → HeapState → Type 0
-StopsMarking w h e g = StopsCrossing w h e g ⊎ ((m : HeapState) × Crosses w h m × StopsScanning w m e g)
-
--- how the rest of a mark ended
-abbrev pub EndsRest : ℕ → HeapState → Result ℕ Refusal → HeapState → Type 0
-EndsRest w h (Ok live) g = EndsWell w h live g
-EndsRest w h (Err e) g = StopsMarking w h e g
-
--- a mark has begun
-abbrev pub Begins : ℕ → HeapState → HeapState → Type 0
-Begins w h g = (a : Answer) × Steps (Worker w) steps.StartMark a h g
-
--- how a mark ended: it has begun, and its rest has ended; or its beginning is rejected, and nothing is done
-abbrev pub EndsMark : ℕ → HeapState → Result ℕ Refusal → HeapState → Type 0
-EndsMark w h (Ok live) g = (m : HeapState) × Begins w h m × EndsWell w m live g
-EndsMark w h (Err e) g =
-    ((outcome h (Worker w) steps.StartMark ≡ Err e) × (g ≡ h))
-    ⊎ ((m : HeapState) × Begins w h m × StopsMarking w m e g)
-
--- how the last step of a mark ended
+-- how the last step of a mark, EndMark, ended; if it is rejected, nothing is done
 abbrev pub EndsHere : ℕ → HeapState → Result ℕ Refusal → HeapState → Type 0
-EndsHere w h (Ok live) g = Goes (IsCollecting w) h g × EndsWell w h live g
+EndsHere w h (Ok live) g = EndsWell w h live g
 EndsHere w h (Err e) g = (outcome h (Worker w) steps.EndMark ≡ Err e) × (g ≡ h)
 
--- the steps of a mark, and how it ended
-abbrev pub Marks : ℕ → HeapState → Result ℕ Refusal → HeapState → Type 0
-Marks w h result g = Goes (IsCollecting w) h g × EndsMark w h result g
+-- how the rest of a mark that all threads have crossed ended: a drain, and then the last step
+abbrev pub EndsScanned : ℕ → HeapState → Result ℕ Refusal → HeapState → Type 0
+EndsScanned w h result g = Then (EndsDraining w) (λ (u : Unit {0}). EndsHere w) h result g
 
--- the steps of the rest of a mark, and how it ended
-abbrev pub MarksRest : ℕ → HeapState → Result ℕ Refusal → HeapState → Type 0
-MarksRest w h result g = Goes (IsCollecting w) h g × EndsRest w h result g
+-- how the rest of a mark that has begun ended: all threads cross, and then a drain and the last step follow
+abbrev pub EndsRest : ℕ → HeapState → Result ℕ Refusal → HeapState → Type 0
+EndsRest w h result g = Then (EndsCrossing w) (λ (u : Unit {0}). EndsScanned w) h result g
 
--- the steps of the rest of a mark that all threads have crossed, and how it ended
-abbrev pub MarksScanned : ℕ → HeapState → Result ℕ Refusal → HeapState → Type 0
-MarksScanned w h result g = Goes (IsCollecting w) h g × EndsScanned w h result g
+-- how a mark ended: its first step, StartMark, and then the rest
+abbrev pub EndsMark : ℕ → HeapState → Result ℕ Refusal → HeapState → Type 0
+EndsMark w h result g = Then (EndsStep (Worker w) steps.StartMark) (λ (a : Answer). EndsRest w) h result g

@@ -1,5 +1,5 @@
 -- Pages that are emptied.
-use Rattle.std.specs.Prelude.{◌≡◌, ◌≢◌, ◌⊎◌, ◌+◌, ℕ, List, [], ◌∷◌, ◌++◌, length, None, Result, Ok, Err}
+use Rattle.std.specs.Prelude.{◌≡◌, ◌≢◌, ◌+◌, ℕ, List, [], ◌∷◌, ◌++◌, length, None, Result, Ok, Err}
 use Rattle.std.specs.List.{AllByRecursion}
 use Rattle.model.specs.declared.records.PageState.TheVariants.{Gone}
 use Rattle.model.specs.declared.steps.Actor.TheVariants.{Worker}
@@ -9,11 +9,11 @@ use Rattle.model.specs.declared.steps.Answer.{Answer}
 use Rattle.model.specs.declared.steps.Refusal.{Refusal}
 use Rattle.model.specs.Outcome.{outcome}
 use Rattle.model.specs.Protections.{free_count}
-use Rattle.model.specs.Refusing.{DoesStep}
 use Rattle.model.specs.States.{HeapState}
 use Rattle.model.specs.Stores.{page_at, frame_in, state_at}
 use Rattle.managed.specs.Goings.{Goes, Steps}
-use Rattle.managed.specs.Collecting.{IsCollecting, Crosses, StopsCrossing}
+use Rattle.managed.specs.Sequences.{Then, EndsStep}
+use Rattle.managed.specs.Collecting.{IsCollecting, EndsCrossing}
 
 -- page n has no frame
 abbrev pub IsBare : HeapState → ℕ → Type 0
@@ -38,12 +38,10 @@ pub record PagesFreed (w : ℕ) (h : HeapState) (ns : List ℕ) (g : HeapState) 
   pub stay : (m : ℕ) → IsBare h m → IsBare g m
   pub more : free_count g.store ≡ free_count h.store + length ns
 
--- page n isn't emptied: the copying of its objects is rejected with e, or the release of its memory
+-- page n isn't emptied: the copying of its objects is rejected with e, or after it the release of its memory
 abbrev pub StopsPage : ℕ → HeapState → ℕ → Refusal → HeapState → Type 0
 StopsPage w h n e g =
-    ((outcome h (Worker w) (steps.CopyPage n) ≡ Err e) × (g ≡ h))
-    ⊎ ((m : HeapState) × (a : Answer) × Steps (Worker w) (steps.CopyPage n) a h m
-    × (outcome m (Worker w) (steps.Release n) ≡ Err e) × (g ≡ m))
+    Then (EndsStep (Worker w) (steps.CopyPage n)) (λ (a : Answer). EndsStep (Worker w) (steps.Release n)) h (Err e) g
 
 -- how the emptying of a page ended
 abbrev pub EndsPage : ℕ → HeapState → ℕ → Result Unit Refusal → HeapState → Type 0
@@ -71,34 +69,18 @@ abbrev pub EndsPages : ℕ → HeapState → List ℕ → Result Unit Refusal �
 EndsPages w h ns (Ok u) g = PagesFreed w h ns g
 EndsPages w h ns (Err e) g = StopsPages w h ns e g
 
--- the emptying of protected pages failed with e: while threads cross, or at a page
-abbrev pub StopsProtected : ℕ → HeapState → List ℕ → Refusal → HeapState → Type 0
-StopsProtected w h ns e g = StopsCrossing w h e g ⊎ ((m : HeapState) × Crosses w h m × StopsPages w m ns e g)
-
--- how the emptying of protected pages ended
+-- how the emptying of protected pages ended: all threads cross, and then the pages are emptied
 abbrev pub EndsProtected : ℕ → HeapState → List ℕ → Result Unit Refusal → HeapState → Type 0
-EndsProtected w h ns (Ok u) g = PagesFreed w h ns g
-EndsProtected w h ns (Err e) g = StopsProtected w h ns e g
+EndsProtected w h ns result g = Then (EndsCrossing w) (λ (u : Unit {0}) (m : HeapState). EndsPages w m ns) h result g
+
+-- how the emptying of pages ended: their protection, and then all that follows it
+abbrev pub EndsEmptying : ℕ → HeapState → List ℕ → Result Unit Refusal → HeapState → Type 0
+EndsEmptying w h ns result g =
+    Then (EndsStep (Worker w) (steps.Protect ns)) (λ (a : Answer) (m : HeapState). EndsProtected w m ns) h result g
 
 -- pages are protected
 abbrev pub Protects : ℕ → HeapState → List ℕ → HeapState → Type 0
 Protects w h ns g = (a : Answer) × Steps (Worker w) (steps.Protect ns) a h g
-
--- how the emptying of pages ended, from their protection on: they are protected, and then emptied as far as the
--- result says; or Protect is rejected with e, or out of memory, and nothing is done
-abbrev pub EndsEmptying : ℕ → HeapState → List ℕ → Result Unit Refusal → HeapState → Type 0
-EndsEmptying w h ns (Ok u) g = (m : HeapState) × Protects w h ns m × PagesFreed w m ns g
-EndsEmptying w h ns (Err e) g =
-    DoesStep h (steps.Protect ns) (Err e) g (outcome h (Worker w) (steps.Protect ns))
-    ⊎ ((m : HeapState) × Protects w h ns m × StopsProtected w m ns e g)
-
--- the steps of an emptying, and how it ended
-abbrev pub Empties : ℕ → HeapState → List ℕ → Result Unit Refusal → HeapState → Type 0
-Empties w h ns result g = Goes (IsCollecting w) h g × EndsEmptying w h ns result g
-
--- the steps of an emptying of protected pages, and how it ended
-abbrev pub EmptiesProtected : ℕ → HeapState → List ℕ → Result Unit Refusal → HeapState → Type 0
-EmptiesProtected w h ns result g = Goes (IsCollecting w) h g × EndsProtected w h ns result g
 
 -- the pages that a step protects
 abbrev pub pages_in : Step → List ℕ

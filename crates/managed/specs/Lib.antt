@@ -1,5 +1,6 @@
 pub mod Runs
 pub mod Goings
+pub mod Sequences
 pub mod Preparing
 pub mod Collecting
 pub mod Emptying

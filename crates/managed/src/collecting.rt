@@ -1,7 +1,7 @@
 //! Complete marks by one worker.
 
 ghost use Rattle.std.specs.Prelude.{◌≡◌};
-ghost use Rattle.managed.specs.Collecting.{IsCollecting, Marks, MarksRest, MarksScanned, EndsMark, EndsRest, EndsHere};
+ghost use Rattle.managed.specs.Collecting.{IsCollecting, EndsMark, EndsRest, EndsScanned, EndsHere};
 ghost use Rattle.managed.specs.Collecting.{StandsUnseen, live_told};
 ghost use Rattle.managed.specs.Goings.{Goes};
 
@@ -23,7 +23,7 @@ impl ManagedHeap {
     }
 
     fn mark_steps(&mut self, worker: u32) -> Result<u64, Refusal>
-        ensures { Marks worker self.old result self.new }
+        ensures { EndsMark worker self.old result self.new }
     {
         match self.step(Actor::Worker(worker), &Step::StartMark) {
             Ok(_) => self.finish_steps(worker),
@@ -41,7 +41,7 @@ impl ManagedHeap {
     }
 
     fn finish_steps(&mut self, worker: u32) -> Result<u64, Refusal>
-        ensures { MarksRest worker self.old result self.new }
+        ensures { EndsRest worker self.old result self.new }
     {
         match self.cross_all(worker) {
             Ok(()) => self.drain_and_end(worker),
@@ -50,7 +50,7 @@ impl ManagedHeap {
     }
 
     fn drain_and_end(&mut self, worker: u32) -> Result<u64, Refusal>
-        ensures { MarksScanned worker self.old result self.new }
+        ensures { EndsScanned worker self.old result self.new }
     {
         match self.drain(worker) {
             Ok(()) => self.end_mark(worker),

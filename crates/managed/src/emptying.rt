@@ -3,8 +3,8 @@
 ghost use Rattle.std.specs.Prelude.{◌≡◌, IfOk, Ok};
 ghost use Rattle.model.specs.Checkpoints.{all_crossed};
 ghost use Rattle.managed.specs.Collecting.{IsCollecting, StandsUnseen};
-ghost use Rattle.managed.specs.Emptying.{Empties, EmptiesProtected, EndsEmptying, EndsPage, EndsPages, EndsProtected};
-ghost use Rattle.managed.specs.Emptying.{EndsRelease, pages_in, whether_told};
+ghost use Rattle.managed.specs.Emptying.{EndsEmptying, EndsPage, EndsPages, EndsProtected, EndsRelease};
+ghost use Rattle.managed.specs.Emptying.{pages_in, whether_told};
 ghost use Rattle.managed.specs.Goings.{Goes};
 ghost use Rattle.managed.specs.Scrubbing.{AreScrubbed};
 
@@ -29,7 +29,7 @@ impl ManagedHeap {
     }
 
     fn empty_steps(&mut self, worker: u32, pages: Vec<u32>) -> Result<(), Refusal>
-        ensures ends { Empties worker self.old pages.items result self.new }
+        ensures ends { EndsEmptying worker self.old pages.items result self.new }
         ensures scrubbed { IfOk result (λ done. AreScrubbed self.new) }
     {
         let step = Step::Protect(PageList::new(pages));
@@ -40,7 +40,7 @@ impl ManagedHeap {
     }
 
     fn empty_listed(&mut self, worker: u32, step: &Step) -> Result<(), Refusal>
-        ensures ends { EmptiesProtected worker self.old (pages_in step.now) result self.new }
+        ensures ends { EndsProtected worker self.old (pages_in step.now) result self.new }
         ensures scrubbed { IfOk result (λ done. AreScrubbed self.new) }
     {
         self.empty_protected(worker, pages_of(step))
@@ -57,7 +57,7 @@ impl ManagedHeap {
     }
 
     fn empty_protected(&mut self, worker: u32, pages: &[u32]) -> Result<(), Refusal>
-        ensures ends { EmptiesProtected worker self.old pages.now result self.new }
+        ensures ends { EndsProtected worker self.old pages.now result self.new }
         ensures scrubbed { IfOk result (λ done. AreScrubbed self.new) }
     {
         match self.cross_all(worker) {

@@ -3,7 +3,7 @@
 ghost use Rattle.std.specs.Prelude.{◌≡◌, ◌<◌, ◌≤◌, None};
 ghost use Rattle.drains.specs.Drains.{IsReady};
 ghost use Rattle.model.specs.Scans.{next_drain};
-ghost use Rattle.managed.specs.Collecting.{IsCollecting, Marks, MarksRest, MarksScanned, EndsMark, EndsRest};
+ghost use Rattle.managed.specs.Collecting.{IsCollecting, EndsMark, EndsRest, EndsScanned};
 ghost use Rattle.managed.specs.Collecting.{StandsUnseen};
 ghost use Rattle.managed.specs.Goings.{EndsDrain, Goes, IsDrain, ScansObjects, StandsForSame};
 ghost use Rattle.managed.specs.Preparing.{IsPrepared};
@@ -102,7 +102,7 @@ impl ManagedHeap {
         worker: u32,
         threads: u32,
     ) -> Result<u64, Refusal>
-        ensures { Marks worker self.old result self.new }
+        ensures { EndsMark worker self.old result self.new }
     {
         match self.step(Actor::Worker(worker), &Step::StartMark) {
             Ok(_) => self.finish_steps_by(rt, worker, threads),
@@ -130,7 +130,7 @@ impl ManagedHeap {
         worker: u32,
         threads: u32,
     ) -> Result<u64, Refusal>
-        ensures { MarksRest worker self.old result self.new }
+        ensures { EndsRest worker self.old result self.new }
     {
         match self.cross_all(worker) {
             Ok(()) => self.drain_and_end_by(rt, worker, threads),
@@ -144,7 +144,7 @@ impl ManagedHeap {
         worker: u32,
         threads: u32,
     ) -> Result<u64, Refusal>
-        ensures { MarksScanned worker self.old result self.new }
+        ensures { EndsScanned worker self.old result self.new }
     {
         match self.drain_by(rt, worker, threads) {
             Ok(()) => self.end_mark(worker),

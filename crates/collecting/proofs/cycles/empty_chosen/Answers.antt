@@ -1,18 +1,18 @@
 use Rattle.std.proofs.Common.{◌∙◌}
-use Rattle.collecting.proofs.Collections.{chosen_some, chosen_stops}
+use Rattle.collecting.proofs.Collections.{chosen_ends, chosen_stops}
 use Rattle.managed.specs.Scrubbing.{AreScrubbed}
 use Rattle.managed.proofs.Corrected.{calm_scrubbed, if_ok}
 use Rattle.collecting.proofs.cycles.empty_chosen.Goals as goal
 
 pub returns-in-Ok-clause-ends : goal.returns-in-Ok-clause-ends
-returns-in-Ok-clause-ends c = chosen_some c.args.heap.now c.empty.new.self c.args.pages.items c.len-count.result
-    c.empty.result
-    c.in-Ok.field-0 c.in-Ok.is (c.len-count.ensures ∙ c.args.pages.ok.0) c.if-count-eq0.false c.empty.ensures.goes
+returns-in-Ok-clause-ends c = chosen_ends c.args.heap.now c.empty.new.self c.args.pages.items c.len-count.result
+    c.empty.result c.in-Ok.field-0 c.in-Ok.is (c.len-count.ensures ∙ c.args.pages.ok.0) c.if-count-eq0.false
     c.empty.ensures.ends
 
 pub returns-in-Err-clause-ends : goal.returns-in-Err-clause-ends
-returns-in-Err-clause-ends c = chosen_stops c.args.heap.now c.empty.new.self c.args.pages.items c.empty.result
-    c.in-Err.refusal c.in-Err.is c.empty.ensures.goes c.empty.ensures.ends
+returns-in-Err-clause-ends c = chosen_stops c.args.heap.now c.empty.new.self c.args.pages.items c.len-count.result
+    c.empty.result c.in-Err.refusal c.in-Err.is (c.len-count.ensures ∙ c.args.pages.ok.0) c.if-count-eq0.false
+    c.empty.ensures.ends
 
 pub returns-then-count-eq0-clause-scrubbed : goal.returns-then-count-eq0-clause-scrubbed
 returns-then-count-eq0-clause-scrubbed c = λ calm. calm_scrubbed c.args.heap.now _ _ c.law.ensures.holds calm

@@ -1,10 +1,16 @@
-use Rattle.collecting.proofs.Collections.{unseen}
+use Rattle.collecting.proofs.Collections.{collecting_goes, unseen}
 use Rattle.collecting.proofs.NotRoom.{collecting_not}
 use Rattle.collecting.proofs.collecting.ManagedHeapHolding.collect.Goals as goal
 
+pub returns-clause-goes : goal.returns-clause-goes
+returns-clause-goes c = collecting_goes c.args.percent c.args.self.now c.collect_whole.new.heap
+    c.collect_whole.result c.collect_whole.ensures.ends
+
 pub returns-clause-stands : goal.returns-clause-stands
-returns-clause-stands c = unseen c.args.self.now c.collect_whole.new.heap c.collect_whole.ensures.ends.0
+returns-clause-stands c = unseen c.args.self.now c.collect_whole.new.heap
+    (collecting_goes c.args.percent c.args.self.now c.collect_whole.new.heap c.collect_whole.result
+    c.collect_whole.ensures.ends)
 
 pub returns-clause-room : goal.returns-clause-room
-returns-clause-room c = collecting_not c.args.percent c.args.self.now c.collect_whole.result c.collect_whole.new.heap
-    c.collect_whole.ensures.ends.1
+returns-clause-room c = collecting_not c.args.percent c.args.self.now c.collect_whole.result
+    c.collect_whole.new.heap c.collect_whole.ensures.ends

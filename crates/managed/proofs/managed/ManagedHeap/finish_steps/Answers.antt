@@ -1,12 +1,17 @@
-use Rattle.managed.proofs.Gathering.{crossed_then, crossed_stops}
+use Rattle.managed.specs.Collecting.{EndsCrossing, EndsScanned}
+use Rattle.managed.proofs.Gathering.{crossing_ends}
+use Rattle.managed.proofs.Sequences.{then_more, then_stops}
 use Rattle.managed.proofs.managed.ManagedHeap.finish_steps.Goals as goal
 
 pub returns-in-Ok : goal.returns-in-Ok
-returns-in-Ok c = crossed_then c.args.worker c.args.self.now c.cross_all.new.self c.drain_and_end.new.self
-    c.cross_all.result tt c.drain_and_end.result c.in-Ok.is c.cross_all.ensures.ends c.cross_all.ensures.goes
-    c.drain_and_end.ensures
+returns-in-Ok c = then_more (EndsCrossing c.args.worker) (λ (u : Unit {0}). EndsScanned c.args.worker)
+    c.args.self.now c.cross_all.new.self c.drain_and_end.new.self c.cross_all.result tt
+    c.drain_and_end.result c.in-Ok.is
+    (crossing_ends c.args.worker c.args.self.now c.cross_all.new.self c.cross_all.result c.cross_all.ensures.ends
+    c.cross_all.ensures.goes c.cross_all.ensures.behind) c.drain_and_end.ensures
 
 pub returns-in-Err : goal.returns-in-Err
-returns-in-Err c = crossed_stops c.args.worker c.args.self.now c.cross_all.new.self c.in-Err.refusal
-    c.cross_all.result c.in-Err.is c.cross_all.ensures.ends c.cross_all.ensures.goes
-    c.cross_all.ensures.behind
+returns-in-Err c = then_stops (EndsCrossing c.args.worker) (λ (u : Unit {0}). EndsScanned c.args.worker)
+    c.args.self.now c.cross_all.new.self c.cross_all.result c.in-Err.refusal c.in-Err.is
+    (crossing_ends c.args.worker c.args.self.now c.cross_all.new.self c.cross_all.result c.cross_all.ensures.ends
+    c.cross_all.ensures.goes c.cross_all.ensures.behind)
