@@ -14,8 +14,8 @@ import sys
 from tried import report
 
 LIST = "docs/contracts.txt"
-HEAD = """# The public calls that have contracts, with the names of their clauses. A clause without a name is listed by the
-# definition that its statement begins with, or as '='. 'python3 tests/contracts.py draw' writes this list.
+HEAD = """# The public calls that have contracts, with the names of their clauses. A clause without a name is
+# listed by the definition that its statement begins with, or as '='. 'python3 tests/contracts.py draw' writes this.
 """
 
 OWNER = re.compile(r"(?:(pub )?trait (\w+)|impl(?:<[^>]*>)? (?:(\w+)(?:<[^>]*>)? for )?(\w+))")
