@@ -11,6 +11,7 @@ mod pace;
 mod seats;
 mod settling;
 mod shared;
+mod threading;
 
 pub use calls::MutatorCalls;
 pub use managed::ManagedHeap;

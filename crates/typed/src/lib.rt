@@ -9,6 +9,7 @@ mod bulk;
 mod calls;
 mod numbers;
 mod owning;
+mod threading;
 
 pub use bulk::BulkCalls;
 pub use calls::HeapCalls;
