@@ -17,6 +17,10 @@ use layout::layout_of;
 use refword::{Addr, Word};
 use std::alloc::AllocError;
 
+/// With this many notes a batch is full, and what else is grey is left to the next wave: so the memory of batches is
+/// used again, and stays in a processor's cache.
+const FULL: usize = 1 << 16;
+
 /// Returns the word that marking leaves for a reference's bits. An object without an entry in a forwarding table, the
 /// usual case, is found by one bit.
 #[inline(always)]
@@ -276,7 +280,7 @@ pub(crate) fn find_in(
 {
     let mut from = first;
     while let Some(index) = heap.todo().next_busy(from) {
-        if index as usize >= end {
+        if index as usize >= end || found.notes.len() >= FULL {
             return Ok(());
         }
         find_page(heap, index, found)?;
