@@ -1,5 +1,5 @@
 #!/usr/bin/env python3
-"""Writes the tables of bench/results.json into the pages of docs/: python3 bench/tables.py write|check
+"""Writes the tables of bench/results.json into docs/*.md and bench/RESULTS.md: python3 bench/tables.py write|check
 
 A table is on a page between '<!-- table NAME -->' and '<!-- end -->', with a line that says how it was measured.
 Two names are reckoned from others: 'machine', which has the machines that all was measured on, and 'aims', which has
@@ -110,7 +110,8 @@ def check(pages, tables):
 
 def main():
     os.chdir(results.TOP)
-    pages, tables = {path: results.text_of(path) for path in sorted(glob.glob("docs/*.md"))}, results.read()
+    paths = [*sorted(glob.glob("docs/*.md")), "bench/RESULTS.md"]
+    pages, tables = {path: results.text_of(path) for path in paths}, results.read()
     if sys.argv[1:] == ["write"]:
         for path, page in pages.items():
             if page_of(page, tables) != page:

@@ -1,7 +1,7 @@
 #!/bin/sh
 # The complete test command; 'make test' runs it at the top of the repository.
 # It proves all crates (proofs.sh), and then runs in four lanes: the checks of
-# documents (README.md, the tables of crates and contracts, links), the program
+# documents (README.md, the tables of crates, the contracts, links), the program
 # on scripts, faults, changed and long scripts, and with words, files, outputs,
 # memory and threads that fail, films, the library for C with the programs on it,
 # and the bookkeeping of mutants. The results are shown when all lanes have ended.

@@ -1,11 +1,10 @@
 #!/usr/bin/env python3
-"""Writes the tables of contracts of docs/THEOREM.md: python3 tests/contracts.py draw|check.
+"""Writes docs/contracts.txt, the list of all public calls with contracts: python3 tests/contracts.py draw|check.
 
-For each crate of CRATES, 'draw' writes a row for each type and trait with public calls that have contracts, and one for
-the public functions of each module: the calls, grouped by the names of their clauses. A clause without a name is
-written as the definition that its statement begins with, or as '=' if it begins with none. A second table has the
-public calls of all crates but those of tests that have a 'requires' clause. 'check' reports whether the tables are what
-would be written; its last line is 'N passed, M failed'.
+'draw' writes a line for each public call with clauses, of all crates but those of tests and benches: the crate, the
+call, and the names of its clauses. A clause without a name is written as the definition that its statement begins with,
+or as '=' if it begins with none; one of a precondition after 'requires'. 'check' reports whether the list is what would
+be written; its last line is 'N passed, M failed'.
 """
 
 import os
@@ -14,10 +13,10 @@ import sys
 
 from tried import report
 
-PAGE = "docs/THEOREM.md"
-CRATES = ("choosing", "cycle", "drains", "managed", "collecting", "typed", "viewing", "portions", "typed_portions",
-          "tokens", "known_registers", "sharing", "hints", "verify", "verifying", "script_check", "parser", "script",
-          "script_threads", "cli", "foreign")
+LIST = "docs/contracts.txt"
+HEAD = """# The public calls that have contracts, with the names of their clauses. A clause without a name is
+# listed by the definition that its statement begins with, or as '='. 'python3 tests/contracts.py draw' writes this.
+"""
 
 OWNER = re.compile(r"(?:(pub )?trait (\w+)|impl(?:<[^>]*>)? (?:(\w+)(?:<[^>]*>)? for )?(\w+))")
 CALL = re.compile(r' *(pub(?:\([^)]*\))? )?(?:const )?(?:unsafe )?(?:extern "C" )?fn (\w+)')
@@ -75,55 +74,26 @@ def shown(crate):
         yield from ((module, call) for call in calls_of(read(path)) if is_shown(call, module, names, modules))
 
 
-def crate_rows(crate):
-    """What is shown of a crate: for each subject its calls by their clauses."""
-    rows = {}
+def lines_of(crate):
+    """The lines of a crate's calls, each once."""
     for module, (trait, owner, name, _, clauses) in shown(crate):
-        subject = f"`{trait}` of `{owner}`" if trait else f"`{owner}`" if owner else f"functions of `{module}`"
-        by_clauses = rows.setdefault(subject, {})
-        by_clauses.setdefault(tuple(dict.fromkeys(clauses)), []).append(name)
-    return rows
+        subject = f"<{owner} as {trait}>" if trait else owner or module
+        yield f"{crate} {subject}::{name}: {', '.join(dict.fromkeys(clauses))}\n"
 
 
 def contracts():
-    """The table of contracts."""
-    lines = ["| Crate | Of | Calls: clauses |\n", "|---|---|---|\n"]
-    for crate in CRATES:
-        for subject, by_clauses in crate_rows(crate).items():
-            groups = (", ".join(f"`{name}`" for name in dict.fromkeys(calls)) + ": " + ", ".join(clauses)
-                      for clauses, calls in by_clauses.items())
-            lines.append(f"| `{crate}` | {subject} | {'; '.join(groups)} |\n")
-    return "".join(lines)
-
-
-def preconditions():
-    """The table of calls with preconditions, of the crates before those of tests."""
-    lines = ["| Crate | Calls |\n", "|---|---|\n"]
-    for crate in re.findall(r"^(\w+)(?: staticlib)?:", read("crates.txt").split("\n# Tests:")[0], re.M):
-        calls = [f"`{owner}::{name}`" if owner else f"`{name}`" for _, (_, owner, name, _, clauses) in shown(crate)
-                 if any(clause.startswith("requires") for clause in clauses)]
-        if calls:
-            lines.append(f"| `{crate}` | {', '.join(calls)} |\n")
-    return "".join(lines)
-
-
-def page_of(page):
-    """The page with the tables as they have to be."""
-    for name, table in ("contracts", contracts()), ("preconditions", preconditions()):
-        begin, end = f"<!-- {name} -->\n", f"<!-- end of {name} -->\n"
-        before, rest = page.split(begin)
-        page = before + begin + table + end + rest.split(end)[1]
-    return page
+    """The list of contracts, of the crates before those of tests."""
+    crates = re.findall(r"^(\w+)(?: staticlib)?:", read("crates.txt").split("\n# Tests:")[0], re.M)
+    return HEAD + "".join(dict.fromkeys(line for crate in crates for line in lines_of(crate)))
 
 
 def main():
     os.chdir(os.path.join(os.path.dirname(os.path.abspath(__file__)), ".."))
     if sys.argv[1:] == ["draw"]:
-        page = page_of(read(PAGE))
-        with open(PAGE, "w", encoding="utf-8") as file:
-            file.write(page)
+        with open(LIST, "w", encoding="utf-8") as file:
+            file.write(contracts())
     elif sys.argv[1:] == ["check"]:
-        tried = {f"{PAGE} has the tables of contracts that are written": read(PAGE) == page_of(read(PAGE))}
+        tried = {f"{LIST} is the list of contracts that is written": os.path.exists(LIST) and read(LIST) == contracts()}
         sys.exit(0 if report(tried) else 1)
     else:
         sys.exit("python3 tests/contracts.py draw|check")

@@ -3,8 +3,9 @@
 
 A line '# NAME: WORDS' of crates.txt begins a group, a room, of the crates after it; those after another heading, as a
 user's own, are in none. 'draw' writes docs/rooms.svg, and in docs/ARCHITECTURE.md the table below each
-heading '### NAME': a row for each crate, with the first sentence of its root file. 'check' reports whether both are
-what would be written, and whether each crate depends on crates above it alone; its last line is 'N passed, M failed'.
+heading '### NAME' but those of tests and benches: a row for each crate, with the first sentence of its root file.
+'check' reports whether both are what would be written, and whether each crate depends on crates above it alone; its
+last line is 'N passed, M failed'.
 """
 
 import itertools
@@ -16,6 +17,9 @@ from tried import report
 
 PICTURE = "docs/rooms.svg"
 PAGE = "docs/ARCHITECTURE.md"
+
+# The rooms without a table.
+UNLISTED = ("Tests", "Benches")
 
 # The place of a room in the picture: its left edge, its row from the top, and its width, of 12.
 PLACES = {
@@ -168,10 +172,11 @@ def table(crates):
 
 
 def page_of(found, page):
-    """The page with the table of each room as it has to be."""
+    """The page with the table of each room as it has to be; none of those in UNLISTED."""
     for room, (_, crates) in found.items():
         below_heading = rf"(### {room}\n(?:(?!#|\|).*\n)*)(?:\|.*\n)*"
-        page = re.sub(below_heading, lambda it, crates=crates: it[1] + table(crates), page)
+        rows = "" if room in UNLISTED else table(crates)
+        page = re.sub(below_heading, lambda it, rows=rows: it[1] + rows, page)
     return page
 
 
