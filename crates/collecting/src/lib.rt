@@ -1,6 +1,6 @@
 //! A managed heap that is collected by one call, completely or in parts, and by itself if frames run low.
 //!
-//! `docs/COLLECTING.md` says when a program collects, and what it may expect.
+//! `docs/LIBRARY.md` says under "Collections" when a program collects, and what it may expect.
 #![tactic(auto)]
 
 mod chosen;

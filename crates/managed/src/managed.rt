@@ -78,8 +78,9 @@ impl ManagedHeap {
         Ok(true)
     }
 
-    /// Keeps the sizes of the live objects of a page, by its number from 1, until a word of the page is written, so that
-    /// it can be protected without its objects' headers. Fails only if out of memory. The state of the heap stays.
+    /// Keeps the sizes of the live objects of a page, by its number from 1, until a word of the page is written or the
+    /// page is protected, so that this needs no headers of its objects. Fails only if out of memory. The state of the
+    /// heap stays.
     pub fn keep_sizes(&mut self, page: u32) -> Result<(), AllocError>
         ensures { self.new ≡ self.old }
     {
