@@ -40,6 +40,11 @@ AIMS = [
     Aim("four threads with a heap each, over one", 3.5, "apart", "over one thread", r"a heap for each thread \| 4",
         True),
     Aim("a hold of a book's lock, us", 1_000, "holds", "objects of .*"),
-    Aim("a part of a collection with a budget of 100, us", 1_000, "pauses",
-        "begin|scan|end|measure|prepare|protect|empty|last", r".* \| 100 \| "),
+    Aim("a part of a collection with a budget of 400, us", 1_000, "pauses",
+        "begin|scan|end|measure|prepare|protect|empty|last", r".* \| 400 \| "),
+    Aim("a mark of a graph of a million objects by four threads, over one", 3, "waves", "4 over one thread",
+        r"mark, graph \| 1,", True),
+    Aim("a mark of a forest by four threads, over one", 2, "waves", "4 over one thread", "mark, forest", True),
+    Aim("a first collection of a half-dead graph by four threads, over one", 2.2, "waves", "4 over one thread",
+        "first collection", True),
 ]
