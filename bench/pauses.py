@@ -10,8 +10,7 @@ program was put aside shows a longer one.
 from measuring import lines, measure
 
 RUNS = 5
-# The usual one is 400.
-BUDGETS = [100, 400, 1_000]
+BUDGETS = [100, 1_000]
 
 # Heaps: words of a page, frames, words of an object, pages that are filled. Objects have one reference and data.
 HEAPS = [(512, 256, 16, 200), (512, 4_096, 16, 3_200), (4_096, 256, 16, 200), (4_096, 4_096, 16, 3_200),
