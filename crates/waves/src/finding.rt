@@ -266,7 +266,8 @@ fn find_page(heap: &Heap, index: u32, found: &mut Batch) -> Result<(), AllocErro
     find_on(heap, index + 1, row, found)
 }
 
-/// Finds grey objects of the pages with records from one index on and before another, as `find_on` does.
+/// Finds grey objects of the pages with records from one index on and before another, as `find_on` does, up to the page
+/// with which the batch is full.
 pub(crate) fn find_in(
     heap: &Heap,
     first: usize,
