@@ -174,7 +174,7 @@ install: pauseless libpauseless.a
 PARTS = c_calls lisp calls commands run boehm waves crowds zgc pauses large cache data
 
 # The programs in Rattle that they measure.
-BENCHES = bench_calls bench_collections bench_sharing bench_lock bench_portions bench_lists
+BENCHES = bench_calls bench_collections bench_sharing bench_lock bench_portions
 
 ifdef TRY
 bench-programs:
@@ -188,7 +188,6 @@ bench-programs: pauseless libpauseless.a
 	@$(call built,bench_sharing,act 100)
 	@$(call built,bench_lock,holds 64 8 4 2 10)
 	@$(call built,bench_portions,portions 2 128)
-	@$(call built,bench_lists,views 2 4000)
 endif
 
 bench: bench-programs

@@ -2,7 +2,7 @@ import java.util.concurrent.atomic.AtomicLong;
 import java.util.concurrent.atomic.AtomicReferenceArray;
 
 /**
- * Threads that make lists, share them and read them back, as the work `lists` of the crate `bench_lists`: java Lists
+ * Threads that make lists, share them and read them back, as the work `lists` of the crate `bench_portions`: java Lists
  * THREADS LISTS. It prints how many nodes were made, and the nanoseconds, after a tenth of the work to warm up.
  */
 public final class Lists {

@@ -42,6 +42,8 @@ AIMS = [
     Aim("a hold of a book's lock, us", 1_000, "holds", "objects of .*"),
     Aim("a part of a collection with a budget of 100, us", 1_000, "pauses",
         "begin|scan|end|measure|prepare|protect|empty|last", r".* \| 100 \| "),
+    Aim("the same, if a collection empties 128 pages at most, us", 1_000, "few-pauses",
+        "begin|scan|end|measure|prepare|protect|empty|last"),
     Aim("a mark of a graph of a million objects by four threads, over one", 3, "waves", "4 over one thread",
         r"mark, graph \| 1,", True),
     Aim("a mark of a forest by four threads, over one", 2, "waves", "4 over one thread", "mark, forest", True),

@@ -58,7 +58,7 @@ MIXES = {"data": 2, "build": 3, "walk": 4, "registers": 4, "globals": 4}
 STEP_RUNS = 15
 
 # Forms of calls, with the turns that are timed. A history has at most 1,000,000 entries.
-TURNS = {"plain": 5_000_000, "call": 3_000_000, "held": 3_000_000, "step": 2_000_000, "act": 200_000}
+TURNS = {"plain": 5_000_000, "call": 3_000_000, "step": 2_000_000, "act": 200_000}
 
 # Turns that are counted, and turns before the count.
 COUNTED = 40_000

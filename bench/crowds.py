@@ -1,8 +1,8 @@
 #!/usr/bin/env python3
 """Times threads that share a heap or a book.
 
-The programs are those of the crates `bench_sharing`, `bench_lock`, `bench_portions` and `bench_lists`, which read a
-clock themselves. Forms take turns, so that a slow moment doesn't fall on one alone. Figures of one thread are the best
+The programs are those of the crates `bench_sharing`, `bench_lock` and `bench_portions`, which read a clock
+themselves. Forms take turns, so that a slow moment doesn't fall on one alone. Figures of one thread are the best
 of several runs, those of several threads the median: the best would be of a run in which they hardly met. If other
 programs use the processors too, `chrt -f 20` before the command keeps them away from threads.
 
@@ -125,7 +125,8 @@ def best_rates(program, forms):
 def views(programs):
     """Threads that read one heap at the same time."""
     forms = {("views of a `SharedHeap`", threads): ("views", threads, LOOKS) for threads in VIEWERS}
-    return ["Form", "Threads", "million looks a second", "over one thread"], best_rates(programs["bench_lists"], forms)
+    rates = best_rates(programs["bench_portions"], forms)
+    return ["Form", "Threads", "million looks a second", "over one thread"], rates
 
 
 def apart(programs):

@@ -5,6 +5,9 @@ The program is that of the crate `bench_collections`, which reads a clock itself
 objects, of which each second one lives, in a list. Then the heap is collected three times in parts, each of which is
 timed alone, and once by one call. The longest part of each kind is the least of some runs, since a run in which the
 program was put aside shows a longer one.
+
+pauses: all pages are emptied that a collection may empty.
+few-pauses: each collection empties 128 pages at most, and there are as many as it takes.
 """
 
 from measuring import lines, measure
@@ -18,6 +21,10 @@ HEAPS = [(512, 256, 16, 200), (512, 4_096, 16, 3_200), (4_096, 256, 16, 200), (4
 
 # Heaps whose objects have references alone.
 WIDE = [(32_768, 4_096, 1_024, 3_200), (32_768, 4_096, 17, 800)]
+
+# Heaps of which few pages are emptied at once, and the budget then.
+LARGE = [heap for heap in HEAPS if heap[1] > 256]
+BUDGET = 100
 
 # The works of the program, by what their objects have.
 WORKS = {"data": ("parts", HEAPS), "references": ("wide", WIDE)}
@@ -54,5 +61,15 @@ def pauses(programs):
             "by one call"], rows
 
 
+def few_pauses(programs):
+    """The same if each collection empties few pages, and how many collections there were."""
+    rows = []
+    for words, frames, size, pages in LARGE:
+        found = least(programs["bench_collections"], "few", (words, frames, size, pages, BUDGET))
+        cells = [micros(found[kind][2]) if kind in found else "" for kind in KINDS[:-1]]
+        rows.append([*(f"{number:,}" for number in (frames, words, size, pages, found["begin"][0])), *cells])
+    return ["Frames", "Words a page", "Words an object", "Pages filled", "Collections", *KINDS[:-1]], rows
+
+
 if __name__ == "__main__":
-    measure(__doc__, {"pauses": pauses})
+    measure(__doc__, {"pauses": pauses, "few-pauses": few_pauses})

@@ -1,7 +1,7 @@
 #!/usr/bin/env python3
 """Times threads that make, share and read back lists, and the same on the JVM's ZGC.
 
-The program is that of the crate `bench_lists`, by its work `lists`; `bench/Lists.java` has the same, and is compiled
+The program is that of the crate `bench_portions`, by its work `lists`; `bench/Lists.java` has the same, and is compiled
 here. If Java, its compiler or its ZGC isn't there, a line says so, and nothing is measured. Our heap has 32 MiB, the
 JVM's as many or 128. The runs of all take turns. Objects a second are the best of several runs, the longest wait and
 the longest stop the least of them, since a run in which a thread was put aside shows longer ones.
@@ -91,7 +91,7 @@ def compared(program, folder):
 
 def lists(programs):
     with tempfile.TemporaryDirectory() as folder:
-        return compared(programs["bench_lists"], folder) if compiled(folder) else None
+        return compared(programs["bench_portions"], folder) if compiled(folder) else None
 
 
 if __name__ == "__main__":

@@ -319,6 +319,12 @@ pauseless_code pauseless_collect(pauseless_heap *heap, uint32_t percent, pausele
  * may scan. *has_ended if it was the last one, and the next part begins another. MEMORY, POLICY_PERCENT. */
 pauseless_code pauseless_collect_some(pauseless_heap *heap, uint32_t percent, uint32_t budget, bool *has_ended);
 
+/* From now on a collection in parts, by pauseless_collect_some or a policy with a budget, empties at most this many
+ * pages with live objects, those with the fewest live words, and all that have none. So the part that protects them
+ * is shorter: with 128 pages it took less than a millisecond in heaps of 1 GiB. What is left is emptied by later
+ * collections, each of which marks the heap. At first any number is allowed. NO_HEAP alone. */
+pauseless_code pauseless_empty_at_most(pauseless_heap *heap, uint32_t pages);
+
 /* Reading the complete heap without steps, in any phase of a collection. An object is read by its place, which is
  * valid until a call other than these is made; 0 is the place of null. These calls write nothing to the heap. NULL if
  * the place of an object is 0, and BAD_INDEX for a number that isn't an object's place. */

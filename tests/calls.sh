@@ -33,14 +33,14 @@ for named in \
     test_heap:protections::a_page_is_protected \
     test_heap:protections::pages_of_a_long_list \
     test_heap:choices::threads_choose_the_same \
-    test_waves:waving::four_threads_mark_as_one \
-    test_library_oom:protections::four_pages_are_protected \
-    test_library_oom:protections::four_pages_of_a_managed_heap \
-    test_library_oom:preparing::parts_go_on \
-    test_library_oom:emptying::pages_are_emptied \
-    test_library_oom:emptying::a_heap_is_made \
-    test_library_oom:emptying::a_heap_is_verified \
-    test_library_oom:sharing::a_heap_is_shared \
+    test_heap:waving::four_threads_mark_as_one \
+    test_library:protections::four_pages_are_protected \
+    test_library:protections::four_pages_of_a_managed_heap \
+    test_library:preparing::parts_go_on \
+    test_library:emptying::pages_are_emptied \
+    test_library:emptying::a_heap_is_made \
+    test_library:emptying::a_heap_is_verified \
+    test_library:sharing::a_heap_is_shared \
     test_books:books::a_run_is_accepted \
     test_books:marks::a_drain \
     test_verifier:verified::the_image_of_an_object_that_moves \
@@ -49,13 +49,13 @@ for named in \
     test_scripts:reports::cycles \
     test_scripts:wants::read_and_run \
     test_scripts:wants::read_and_checked \
-    test_sharing_oom:steps::steps_of_seats \
-    test_sharing_oom:steps::steps_of_threads \
-    test_sharing_oom:steps::pages_by_halves \
-    test_sharing_oom:openings::a_book_is_opened \
-    test_sharing_oom:openings::pages_are_chosen \
-    test_sharing_oom:lists::a_list_of_steps \
-    test_sharing_oom:lists::a_drain_in_two_parts \
+    test_sharing:steps::steps_of_seats \
+    test_sharing:steps::steps_of_threads \
+    test_sharing:steps::pages_by_halves \
+    test_sharing:openings::a_book_is_opened \
+    test_sharing:openings::pages_are_chosen \
+    test_sharing:lists::a_list_of_steps \
+    test_sharing:lists::a_drain_in_two_parts \
     test_script_threads:wants::hints_come_back \
     test_script_threads:wants::runs_by_threads; do
     crate=${named%%:*}

@@ -409,6 +409,19 @@ static void parts(void) {
     pauseless_free(&heap);
 }
 
+/* Collections that empty two pages at most, whose objects go to a third one, and then all. */
+static void few_at_once(void) {
+    makes_sparse();
+    DONE(pauseless_empty_at_most(&heap, 2));
+    SAME(parts_of(100, 1000) < 1000, true);
+    SAME(free_frames(), 4);
+    DONE(pauseless_empty_at_most(&heap, UINT32_MAX));
+    SAME(parts_of(100, 1000) < 1000, true);
+    SAME(free_frames(), 7);
+    list_is_whole();
+    pauseless_free(&heap);
+}
+
 /* The first bytes of the text that there is room for, and no other. */
 static void reports(void) {
     char text[8] = "-------";
@@ -491,6 +504,7 @@ static void without_heap(void) {
     SAME(pauseless_copy(&heap, 0, 0, 0), PAUSELESS_NO_HEAP);
     SAME(pauseless_clear(&heap, 0, 0), PAUSELESS_NO_HEAP);
     SAME(pauseless_set(&heap, 0, 0, 0, 0), PAUSELESS_NO_HEAP);
+    SAME(pauseless_empty_at_most(&heap, 1), PAUSELESS_NO_HEAP);
     SAME(pauseless_verify(&heap), PAUSELESS_NO_HEAP);
     pauseless_free(&heap);
 }
@@ -515,6 +529,7 @@ int main(void) {
     not_filled();
     collections();
     parts();
+    few_at_once();
     reports();
     unwritten();
     unwritten_without_heap();

@@ -3,7 +3,7 @@
 
 use cycle::Stepping;
 use heap::Heap;
-use pauseless::{Actor, Book, Mutating, Reply, Step};
+use pauseless::{Actor, Book, Reply, Step};
 
 /// The one thread of each heap.
 pub const THREAD: Actor = Actor::Thread(0);
@@ -44,8 +44,8 @@ impl Steps for Book {
     }
 }
 
-/// Calls and steps on a heap.
-pub trait Calls: Mutating + Steps {
+/// Steps on a heap, and calls.
+pub trait Calls: Steps {
     /// Borrows the heap for changes.
     fn heap_mut(&mut self) -> &mut Heap;
 }

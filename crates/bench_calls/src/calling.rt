@@ -2,8 +2,7 @@
 
 use crate::mixes::{LAST, LIST, Mix, OBJECTS, OTHER, WORDS, config};
 use anyhow::Result;
-use heap::Heap;
-use pauseless::{ManagedHeap as HeldHeap, Mutating, Refusal, Trap};
+use pauseless::{ManagedHeap, Mutating, Refusal, Trap};
 use std::alloc::Global;
 
 const THREAD: u32 = 0;
@@ -13,13 +12,7 @@ trait Counted: Mutating {
     fn births(&self) -> u64;
 }
 
-impl Counted for Heap {
-    fn births(&self) -> u64 {
-        Heap::births(self)
-    }
-}
-
-impl Counted for HeldHeap {
+impl Counted for ManagedHeap {
     fn births(&self) -> u64 {
         self.heap().births()
     }
@@ -132,12 +125,6 @@ fn mixed(mut heap: impl Counted + Drop, mix: Mix, count: u32) -> Result<u64, Ref
 
 /// Does `count` turns of a mix on a heap of its own. Returns their result.
 pub fn run(alloc: Global, mix: Mix, count: u32) -> Result<u64> {
-    let heap = Heap::new(alloc, config(alloc, mix)?)?;
-    Ok(mixed(heap, mix, count)?)
-}
-
-/// Does the same on a managed heap.
-pub fn run_held(alloc: Global, mix: Mix, count: u32) -> Result<u64> {
-    let heap = HeldHeap::new(alloc, config(alloc, mix)?)?;
+    let heap = ManagedHeap::new(alloc, config(alloc, mix)?)?;
     Ok(mixed(heap, mix, count)?)
 }

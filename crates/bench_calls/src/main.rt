@@ -3,8 +3,7 @@
 //!
 //! | Words | Effect |
 //! |---|---|
-//! | `call-MIX TURNS` | turns of a mix of steps (`mixes`) by the calls of `Mutating` |
-//! | `held-MIX TURNS` | the same on a heap as a program holds it |
+//! | `call-MIX TURNS` | turns of a mix of steps (`mixes`) by the calls of `Mutating`, on a heap as a program holds it |
 //! | `step-MIX TURNS` | the same by `Heap::step` |
 //! | `act-MIX TURNS` | the same by `Book::act` |
 //! | `copies WORDS PAGES COPIED` | protects PAGES pages full of objects of WORDS words, and copies the first COPIED, an object a step |
@@ -53,7 +52,6 @@ fn turns(alloc: Global, form: &str, name: &str, numbers: [u32; 3]) -> Result<u64
     let [count, _, _] = numbers;
     match form {
         "call" => calling::run(alloc, mix, count),
-        "held" => calling::run_held(alloc, mix, count),
         "step" => stepping::run(alloc, mix, count),
         "act" => stepping::run_book(alloc, mix, count),
         _ => bail!("no such form"),

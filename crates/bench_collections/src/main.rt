@@ -32,6 +32,7 @@
 //! |---|---|
 //! | `parts WORDS FRAMES SIZE PAGES BUDGET` | fills PAGES pages with objects of SIZE words, every second one live, and collects three times in parts with this budget, then once at once |
 //! | `wide WORDS FRAMES SIZE PAGES BUDGET` | the same, with objects of references only |
+//! | `few WORDS FRAMES SIZE PAGES BUDGET` | as `parts`, but each collection in parts empties at most 128 pages with live objects, and there are as many collections as it takes |
 //!
 //! | Kind of part | Does |
 //! |---|---|
@@ -63,6 +64,9 @@ use std::alloc::Global;
 use std::thread::Threads;
 use std::time::Clock;
 use turning::{Shape, Task, Turn};
+
+/// How many pages with live objects a collection of the work `few` empties at most.
+const FEW: u32 = 128;
 
 /// The shape of a name.
 fn shape_of(name: &str) -> Result<Shape> {
@@ -120,8 +124,14 @@ fn give<R: Print>(rt: &R, alloc: Global, asked: &Work) -> Result<()> {
 }
 
 /// Does the parts of collections of objects of this layout, and prints what each took.
-fn part<R: Clock + Print>(rt: &R, alloc: Global, asked: &Work, layout: Layout) -> Result<()> {
-    let laps = parting::timed(rt, alloc, layout, asked.numbers)?;
+fn part<R: Clock + Print>(
+    rt: &R,
+    alloc: Global,
+    asked: &Work,
+    layout: Layout,
+    most: u32,
+) -> Result<()> {
+    let laps = parting::timed(rt, alloc, layout, most, asked.numbers)?;
     tell(rt, &laps, asked.timed)
 }
 
@@ -157,8 +167,9 @@ fn work<R: Clock + Print + Threads + Sync>(rt: &R, alloc: Global, asked: &Work) 
         _ => {}
     }
     match asked.name.as_str() {
-        "parts" => part(rt, alloc, asked, narrow(size)?),
-        "wide" => part(rt, alloc, asked, wide(size)?),
+        "parts" => part(rt, alloc, asked, narrow(size)?, u32::MAX),
+        "few" => part(rt, alloc, asked, narrow(size)?, FEW),
+        "wide" => part(rt, alloc, asked, wide(size)?, u32::MAX),
         _ => give(rt, alloc, asked),
     }
 }

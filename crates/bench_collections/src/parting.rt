@@ -12,7 +12,7 @@ use std::time::{Clock, Instant};
 /// Pages of which at most this percentage of the words is live are emptied.
 const PERCENT: u32 = 75;
 
-/// How many collections in parts are done.
+/// How many collections in parts are done, if each empties all pages that are sparse.
 const COLLECTIONS: u32 = 3;
 
 /// A managed heap whose state is read.
@@ -104,15 +104,17 @@ fn part<R: Clock>(
     Ok(ended)
 }
 
-/// Does all parts of a collection.
+/// Does all parts of a collection that empties at most `most` pages with live objects.
 fn collect<R: Clock>(
     rt: &R,
     alloc: Global,
     heap: &mut impl Seen,
+    most: u32,
     budget: u32,
     laps: &mut Laps,
 ) -> Result<()> {
     let mut parts = Parts::new(alloc);
+    parts.empty_at_most(most);
     for _ in 0..u64::MAX {
         if part(rt, alloc, heap, &mut parts, budget, laps)? {
             break;
@@ -140,14 +142,15 @@ fn collections<R: Clock>(
     alloc: Global,
     mut heap: impl Seen + Drop,
     refs: u32,
+    most: u32,
     numbers: [u32; 5],
 ) -> Result<Vec<Lap>> {
     let [words, _, size, pages, budget] = numbers;
     let count = words.checked_div(size.saturating_mul(2)).unwrap_or(0);
     fill(&mut heap, words, pages, count, refs)?;
     let mut laps = Laps::new(alloc);
-    for _ in 0..COLLECTIONS {
-        collect(rt, alloc, &mut heap, budget, &mut laps)?;
+    for _ in 0..COLLECTIONS.saturating_add(pages / most.max(1)) {
+        collect(rt, alloc, &mut heap, most, budget, &mut laps)?;
     }
     collect_whole(rt, alloc, &mut heap, &mut laps)?;
     Ok(laps.all()?)
@@ -159,6 +162,7 @@ pub fn timed<R: Clock>(
     rt: &R,
     alloc: Global,
     layout: Layout,
+    most: u32,
     numbers: [u32; 5],
 ) -> Result<Vec<Lap>> {
     let [words, frames, _, _, _] = numbers;
@@ -168,6 +172,7 @@ pub fn timed<R: Clock>(
         alloc,
         new_heap(alloc, words, frames, layout)?,
         refs,
+        most,
         numbers,
     )
 }

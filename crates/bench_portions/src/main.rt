@@ -1,5 +1,6 @@
-//! Benches of steps by threads that share a heap or have one each, for `bench/crowds.py`. Each work prints how many
-//! steps it has done; after the word `timed` it prints nanoseconds too, and the waits for a turn and the holds.
+//! Benches of threads that share a heap or have one each, for `bench/crowds.py` and `bench/zgc.py`. Each work prints
+//! how many steps it has done, cells it has made, or looks it has done; after the word `timed` it prints nanoseconds
+//! too, and the waits for a turn and the holds.
 //!
 //! | Words | Effect |
 //! |---|---|
@@ -9,15 +10,20 @@
 //! | `locked-turns THREADS STEPS` | the same on plain heaps under one lock |
 //! | `apart THREADS STEPS` | the same, each thread on a heap of its own, without waits |
 //! | `plain THREADS STEPS` | the same on plain heaps |
+//! | `lists THREADS LISTS RESTS WORDS BUDGET` | lists of 1,000 cells are made and read by the next thread, LISTS each |
+//! | `views THREADS LOOKS` | a list is read by views of one heap at the same time, LOOKS of each thread |
 //!
-//! A heap has 2 MiB. The word `then` separates two works.
+//! A heap has 2 MiB. That of `lists` has 32 MiB, in pages of WORDS, and portions of RESTS rests; BUDGET is the
+//! collector's. The word `then` separates two works.
 #![tactic(auto)]
 
 mod apart;
+mod lists;
 mod locked;
 mod own;
 mod plain;
 mod steps;
+mod views;
 
 use anyhow::{Result, bail};
 use bench_support::{Lap, Work, tell, works};
@@ -41,6 +47,8 @@ fn work<R: Threads + Wait + Clock + Sync>(
         "locked-turns" => locked::locked(rt, alloc, threads, count, true),
         "apart" => apart::apart(rt, alloc, threads, count),
         "plain" => apart::plain(rt, alloc, threads, count),
+        "lists" => lists::lists(rt, alloc, numbers),
+        "views" => views::views(rt, alloc, threads, count),
         _ => bail!("no such work"),
     }
 }

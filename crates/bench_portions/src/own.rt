@@ -2,8 +2,7 @@
 
 use bench_support_threads::{CELL, Cells, POLICY};
 use collecting::Holding;
-use cycle::Mutating;
-use managed::ManagedHeap;
+use managed::{ManagedHeap, Mutating};
 use model::Refusal;
 use std::alloc::Global;
 

@@ -97,7 +97,9 @@ pub fn portions<R: Threads + Wait + Clock + Sync>(
     count: u32,
 ) -> Result<Vec<Lap>> {
     let (shared, seats) = opened(alloc, threads, Shape::small(RESTS))?;
-    timed(rt, alloc, &shared, seats, count)
+    let laps = timed(rt, alloc, &shared, seats, count);
+    drop(shared);
+    laps
 }
 
 /// N threads do `count` steps each alongside a collector, and each wait for a turn is timed.
@@ -111,5 +113,7 @@ pub fn turns<R: Threads + Wait + Clock + Sync>(
     let shape = Shape::small(rests);
     let (shared, seats) = opened(alloc, threads, shape)?;
     let job = Watched { count, rests };
-    collected(rt, alloc, "turns", &shared, seats, shape, &job)
+    let laps = collected(rt, alloc, "turns", &shared, seats, shape, &job);
+    drop(shared);
+    laps
 }

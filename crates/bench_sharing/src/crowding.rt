@@ -69,7 +69,9 @@ fn lap<R: Threads + Wait + Clock + Sync>(
     count: u32,
 ) -> Result<Lap> {
     let (shared, seats) = opened(alloc, config(alloc, threads)?)?;
-    timed(rt, alloc, &shared, seats, count)
+    let lap = timed(rt, alloc, &shared, seats, count);
+    drop(shared);
+    lap
 }
 
 /// Lets `threads` threads do `count` steps each by `Shared::step`.

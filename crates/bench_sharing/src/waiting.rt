@@ -91,19 +91,33 @@ fn waited<R: Threads + Wait + Clock + Sync>(
     Some(both(rt, shared, first, second, millis))
 }
 
+/// The same on a heap that is shared already.
+fn timed<R: Threads + Wait + Clock + Sync>(
+    rt: &R,
+    alloc: Global,
+    shared: &Shared,
+    seats: Vec<Seat>,
+    millis: u32,
+) -> Result<Vec<Lap>> {
+    let mut seats = seats;
+    if !prepare(rt, alloc, shared, &mut seats)? {
+        bail!("a step was refused");
+    }
+    let start = Instant::now(rt)?;
+    let Some(done) = waited(rt, shared, seats, millis) else {
+        bail!("there are no seats");
+    };
+    Ok(vec![in alloc; Lap::once("waits", done, since(rt, start)?)]?)
+}
+
 /// A thread waits `millis` milliseconds for a step of another one.
 pub fn waits<R: Threads + Wait + Clock + Sync>(
     rt: &R,
     alloc: Global,
     millis: u32,
 ) -> Result<Vec<Lap>> {
-    let (shared, mut seats) = opened(alloc, config(alloc, 2)?)?;
-    if !prepare(rt, alloc, &shared, &mut seats)? {
-        bail!("a step was refused");
-    }
-    let start = Instant::now(rt)?;
-    let Some(done) = waited(rt, &shared, seats, millis) else {
-        bail!("there are no seats");
-    };
-    Ok(vec![in alloc; Lap::once("waits", done, since(rt, start)?)]?)
+    let (shared, seats) = opened(alloc, config(alloc, 2)?)?;
+    let laps = timed(rt, alloc, &shared, seats, millis);
+    drop(shared);
+    laps
 }

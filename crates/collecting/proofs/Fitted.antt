@@ -18,7 +18,7 @@ use Rattle.choosing.specs.Choices.{IsRising, has_room_for, page_of, size_on, siz
 use Rattle.choosing.specs.Packings.{has_page_for, pack, pack_if}
 use Rattle.choosing.proofs.Cuts.{IsBeginning, behind, goes_on, is_cut, is_whole, room_in}
 use Rattle.choosing.proofs.Low.{object_low, packed_low}
-use Rattle.collecting.specs.Stages.{IsChosen, IsFitting, dead_count, emptied_of, found_words}
+use Rattle.collecting.specs.Stages.{IsChosen, IsFitting, dead_count, emptied_of, first_of, found_words}
 
 -- ---- pages that exist
 
@@ -126,7 +126,8 @@ fits_none h ps i d xs s o store l b told is =
 
 -- ---- the choice
 
-pub is_chosen : (h : HeapState) (found ps : List (ℕ × ℕ)) (ns xs : List ℕ) (copied : ℕ) → IsPermutation found ps
-    → IsRising ps → IsFitting h (map page_of ps) ns → xs ≡ take (emptied_of (dead_count ps) (length ns)) ns
-    → copied ≡ found_words (take (length xs) ps) → IsChosen h found xs copied
-is_chosen h found ps ns xs copied same rising fits is moved = (ps, ns, same, rising, fits, is, moved)
+pub is_chosen : (most : ℕ) (h : HeapState) (found ps : List (ℕ × ℕ)) (ns xs : List ℕ) (copied : ℕ)
+    → IsPermutation found ps → IsRising ps → IsFitting h (map page_of (first_of most ps)) ns
+    → xs ≡ take (emptied_of (dead_count ps) (length ns)) ns → copied ≡ found_words (take (length xs) ps)
+    → IsChosen most h found xs copied
+is_chosen most h found ps ns xs copied same rising fits is moved = (ps, ns, same, rising, fits, is, moved)

@@ -28,7 +28,8 @@ pub not_paced : (t n percent free budget target layout : ℕ) (p : PartsState) (
     → ThreadStands answers.Birth h t (steps.New target layout) r g
     → MakesPaced t n percent free budget target layout p h r p g
 not_paced t n percent free budget target layout p h g (Ok b) other does keeps =
-    subst (λ (o : Outcome). MakesPacedIf (lacks_buffer o) t n percent free budget target layout p h (Ok b) p g) (sym does)
+    subst (λ (o : Outcome). MakesPacedIf (lacks_buffer o) t n percent free budget target layout p h (Ok b) p g)
+    (sym does)
     (refl, made t n percent target layout h g (Ok b) does keeps)
 not_paced t n percent free budget target layout p h g (Err e) other does keeps =
     subst (λ (o : Outcome). MakesPacedIf (lacks_buffer o) t n percent free budget target layout p h (Err e) p g)

@@ -23,7 +23,7 @@ use Rattle.managed.proofs.Running.{runs_one}
 use Rattle.collecting.specs.declared.words.LiveWords.{LiveWords}
 use Rattle.collecting.specs.declared.parts.Stage.{Stage}
 use Rattle.collecting.specs.declared.parts.Stage.TheVariants as stages
-use Rattle.collecting.specs.Collections.{WORKER, Collects, EndsLeft}
+use Rattle.collecting.specs.Collections.{WORKER, Collects}
 use Rattle.collecting.specs.Parts.{EndsPortion, EndsProtecting, EndsStage, Stops, StopsAt}
 use Rattle.collecting.specs.Parts.{is_memory}
 use Rattle.collecting.specs.Parts.{Crossing, Emptying}
@@ -37,7 +37,7 @@ use Rattle.collecting.proofs.Collections.{none, and_then}
 -- ---- marks
 
 pub marks_ended : (p q : PartsState) (h g : HeapState) (s : Result Bool Refusal) → s ≡ Ok true → EndsMarking h s g
-    → q ≡ at_stage stages.Choose p.chosen no_words → MarksOn p h (Ok false) q g
+    → q ≡ at_stage stages.Choose p.most p.chosen no_words → MarksOn p h (Ok false) q g
 marks_ended p q h g s is k new =
     let m : EndsMarking h (Ok true) g = subst (λ (x : Result Bool Refusal). EndsMarking h x g) is k in
     (refl, m.0, inr (new, m.1))
@@ -83,31 +83,28 @@ crossed_portion h g (Err e) k = stopped_crossing h g e k
 
 -- ---- a page
 
-pub one_then : (h m g : HeapState) (n : ℕ) (c : Result Unit Refusal) (u : Unit {0}) (r : Result Unit Refusal) → c ≡ Ok u
-    → EndsCrossing WORKER h c m → EndsLeft m n r g → EndsOne h n r g
-one_then h m g n c u (Ok v) is a k = (m, subst (λ (x : Result Unit Refusal). EndsCrossing WORKER h x m) is a, k)
-one_then h m g n c u (Err e) is a k =
-    let first : Crosses WORKER h m = subst (λ (x : Result Unit Refusal). EndsCrossing WORKER h x m) is a in
-    let goes : Collects h m = crosses_goes h m first in
-    (and_then h m g goes k.0, (m, goes, Emptying n k.1))
-
-pub one_stops : (h g : HeapState) (n : ℕ) (c : Result Unit Refusal) (e : Refusal) → c ≡ Err e
-    → EndsCrossing WORKER h c g → EndsOne h n (Err e) g
-one_stops h g n c e is k = stopped_crossing h g e (crossed_stops h g c e is k)
+-- where it failed
+one_stops : (n : ℕ) (h : HeapState) (e : Refusal) (g : HeapState) → EndsOne n h (Err e) g → Stops h e g
+one_stops n h e g (inl k) = stopped_crossing h g e k
+one_stops n h e g (inr k) =
+    let m = k.0 in
+    let goes : Collects h m = crosses_goes h m k.2 in
+    (and_then h m g goes k.3.0, (m, goes, Emptying n k.3.1))
 
 pub empties_none : (p q : PartsState) (h : HeapState) (o : Option ℕ) → o ≡ slice_get p.chosen p.next → o ≡ None
-    → q ≡ at_stage stages.Mark p.chosen p.words → EmptiesOn p h (Ok true) q h
+    → q ≡ at_stage stages.Mark p.most p.chosen p.words → EmptiesOn p h (Ok true) q h
 empties_none p q h o told is new = inl (sym told ∙ is, new, refl)
 
 pub empties_next : (p q : PartsState) (h g : HeapState) (o : Option ℕ) (n : ℕ) (r : Result Unit Refusal) (u : Unit {0})
-    → o ≡ slice_get p.chosen p.next → o ≡ Some n → r ≡ Ok u → EndsOne h n r g → q ≡ passed p
+    → o ≡ slice_get p.chosen p.next → o ≡ Some n → r ≡ Ok u → EndsOne n h r g → q ≡ passed p
     → EmptiesOn p h (Ok false) q g
 empties_next p q h g o n r u told is done k new =
-    inr (refl, new, (n, sym told ∙ is, subst (λ (x : Result Unit Refusal). EndsOne h n x g) done k))
+    inr (refl, new, (n, sym told ∙ is, subst (λ (x : Result Unit Refusal). EndsOne n h x g) done k))
 
-pub empties_stop : (p : PartsState) (h g : HeapState) (n : ℕ) (r : Result Unit Refusal) (e : Refusal) → r ≡ Err e
-    → EndsOne h n r g → EmptiesOn p h (Err e) p g
-empties_stop p h g n r e is k = (refl, subst (λ (x : Result Unit Refusal). EndsOne h n x g) is k)
+pub empties_stop : (p : PartsState) (h g : HeapState) (o : Option ℕ) (n : ℕ) (r : Result Unit Refusal) (e : Refusal)
+    → o ≡ slice_get p.chosen p.next → o ≡ Some n → r ≡ Err e → EndsOne n h r g → EmptiesOn p h (Err e) p g
+empties_stop p h g o n r e told is failed k =
+    (refl, (n, sym told ∙ is, subst (λ (x : Result Unit Refusal). EndsOne n h x g) failed k))
 
 -- ---- protection
 
@@ -133,22 +130,22 @@ protect_ends h g ns (Ok x) a is does keeps =
 
 pub protected_then : (ns : List ℕ) (p q : PartsState) (h m g : HeapState) (s : Result Unit Refusal) (u : Unit {0})
     (r : Result Bool Refusal) → s ≡ Ok u → EndsProtecting h ns s m → p.chosen ≡ ns
-    → q ≡ at_stage stages.Empty p.chosen p.words → EndsCrossed m r g → ProtectsSome ns p.words h r q g
+    → q ≡ at_stage stages.Empty p.most p.chosen p.words → EndsCrossed m r g → ProtectsSome ns p.most p.words h r q g
 protected_then ns p q h m g s u r is k same new c = by_result r c
   where
     first : Protects WORKER h ns m
     first = subst (λ (x : Result Unit Refusal). EndsProtecting h ns x m) is k
 
-    at : q ≡ at_stage stages.Empty ns p.words
-    at = new ∙ ap (λ (xs : List ℕ). at_stage stages.Empty xs p.words) same
+    at : q ≡ at_stage stages.Empty p.most ns p.words
+    at = new ∙ ap (λ (xs : List ℕ). at_stage stages.Empty p.most xs p.words) same
 
-    by_result : (r : Result Bool Refusal) → EndsCrossed m r g → ProtectsSome ns p.words h r q g
+    by_result : (r : Result Bool Refusal) → EndsCrossed m r g → ProtectsSome ns p.most p.words h r q g
     by_result (Ok b) c = (c.0, inl (at, (m, first, c.1)))
     by_result (Err e) c = inr (at, (m, first, c))
 
 pub protected_not : (ns : List ℕ) (p q : PartsState) (h g : HeapState) (s : Result Unit Refusal) (e : Refusal)
     (r : Result Bool Refusal) → s ≡ Err e → EndsProtecting h ns s g → p.chosen ≡ ns → TellsAnew e p r q
-    → ProtectsSome ns p.words h r q g
+    → ProtectsSome ns p.most p.words h r q g
 protected_not ns p q h g s e r is k same told = by_result r told
   where
     d : EndsProtecting h ns (Err e) g
@@ -157,11 +154,11 @@ protected_not ns p q h g s e r is k same told = by_result r told
     stays : g ≡ h
     stays = refused_same h g ns e (outcome h (Worker WORKER) (steps.Protect ns)) d.1
 
-    by_result : (r : Result Bool Refusal) → TellsAnew e p r q → ProtectsSome ns p.words h r q g
+    by_result : (r : Result Bool Refusal) → TellsAnew e p r q → ProtectsSome ns p.most p.words h r q g
     by_result (Ok b) t = (
       t.0,
       inr (
-        t.2 ∙ ap (λ (xs : List ℕ). at_stage stages.Mark xs p.words) same,
+        t.2 ∙ ap (λ (xs : List ℕ). at_stage stages.Mark p.most xs p.words) same,
         stays,
         (e, t.1, refused_so h g ns e (outcome h (Worker WORKER) (steps.Protect ns)) t.1 d.1),
       ),
@@ -179,29 +176,36 @@ pub listed_some : (n : ℕ) (ns : List ℕ) (b : Bool) → b ≡ (n == 0) → b 
 listed_some n ns b told is same e =
     true≢false (sym (eq-eqb n 0 (same ∙ ap length e)) ∙ sym told ∙ is)
 
-pub chooses_none : (p m q : PartsState) (h : HeapState) (ns : List ℕ) (copied : ℕ) → IsChosen h p.found ns copied
-    → m.chosen ≡ ns → m.words ≡ with_copied copied p.words → ns ≡ [] → q ≡ at_stage stages.Mark m.chosen m.words
-    → ChoosesAll p h (Ok true) q h
-chooses_none p m q h ns copied k same words is new = (
+pub chooses_none : (p m q : PartsState) (h : HeapState) (ns : List ℕ) (copied : ℕ) → IsChosen p.most h p.found ns copied
+    → m.chosen ≡ ns → m.words ≡ with_copied copied p.words → m.most ≡ p.most → ns ≡ []
+    → q ≡ at_stage stages.Mark m.most m.chosen m.words → ChoosesAll p h (Ok true) q h
+chooses_none p m q h ns copied k same words most is new = (
   [],
   copied,
-  subst (λ (xs : List ℕ). IsChosen h p.found xs copied) is k,
-  (new ∙ ap (λ (xs : List ℕ). at_stage stages.Mark xs m.words) (same ∙ is) ∙ ap (at_stage stages.Mark []) words, refl),
+  subst (λ (xs : List ℕ). IsChosen p.most h p.found xs copied) is k,
+  (
+    new ∙ ap (λ (xs : List ℕ). at_stage stages.Mark m.most xs m.words) (same ∙ is)
+        ∙ ap (at_stage stages.Mark m.most []) words
+        ∙ ap (λ (n : ℕ). at_stage stages.Mark n [] (with_copied copied p.words)) most,
+    refl,
+  ),
 )
 
-some_on : (ns : List ℕ) (words : LiveWords) (h : HeapState) (r : Result Bool Refusal) (q : PartsState) (g : HeapState)
-    → (ns ≡ [] → ⊥) → ProtectsSome ns words h r q g → ProtectsOn ns words h r q g
-some_on [] words h r q g some k = absurd (some refl)
-some_on (n ∷ ns) words h r q g some k = k
+some_on : (ns : List ℕ) (most : ℕ) (words : LiveWords) (h : HeapState) (r : Result Bool Refusal) (q : PartsState)
+    (g : HeapState) → (ns ≡ [] → ⊥) → ProtectsSome ns most words h r q g → ProtectsOn ns most words h r q g
+some_on [] most words h r q g some k = absurd (some refl)
+some_on (n ∷ ns) most words h r q g some k = k
 
 pub chooses_some : (p m q : PartsState) (h g : HeapState) (ns : List ℕ) (copied : ℕ) (r : Result Bool Refusal)
-    → IsChosen h p.found ns copied → m.words ≡ with_copied copied p.words → (ns ≡ [] → ⊥)
-    → ProtectsSome ns m.words h r q g → ChoosesAll p h r q g
-chooses_some p m q h g ns copied r c words some k =
-    by_result r (some_on ns (with_copied copied p.words) h r q g some
-    (subst (λ (w : LiveWords). ProtectsSome ns w h r q g) words k))
+    → IsChosen p.most h p.found ns copied → m.words ≡ with_copied copied p.words → m.most ≡ p.most → (ns ≡ [] → ⊥)
+    → ProtectsSome ns m.most m.words h r q g → ChoosesAll p h r q g
+chooses_some p m q h g ns copied r c words most some k =
+    by_result r (some_on ns p.most (with_copied copied p.words) h r q g some
+    (subst (λ (n : ℕ). ProtectsSome ns n (with_copied copied p.words) h r q g) most
+    (subst (λ (w : LiveWords). ProtectsSome ns m.most w h r q g) words k)))
   where
-    by_result : (r : Result Bool Refusal) → ProtectsOn ns (with_copied copied p.words) h r q g → ChoosesAll p h r q g
+    by_result : (r : Result Bool Refusal) → ProtectsOn ns p.most (with_copied copied p.words) h r q g
+        → ChoosesAll p h r q g
     by_result (Ok b) k = (ns, copied, c, k)
     by_result (Err e) k = inr (ns, copied, c, k)
 
@@ -209,7 +213,8 @@ pub chooses_lacks : (p q : PartsState) (h : HeapState) → ChoosesAll p h (Err r
 chooses_lacks p q h = inl (refl, refl)
 
 pub measures_end : (percent budget : ℕ) (p m q : PartsState) (h : HeapState)
-    → Measures h percent (pages_in budget h.config.words) p true m → q ≡ preparing h m → MeasuresOn percent budget p h (Ok false) q h
+    → Measures h percent (pages_in budget h.config.words) p true m → q ≡ preparing h m
+    → MeasuresOn percent budget p h (Ok false) q h
 measures_end percent budget p m q h a is = (refl, refl, inr (m, a, is))
 
 pub measures_on : (percent budget : ℕ) (p q : PartsState) (h : HeapState)
@@ -269,28 +274,28 @@ step_goes h m step a k =
 protects_goes : (h m : HeapState) (ns : List ℕ) → Protects WORKER h ns m → Collects h m
 protects_goes h m ns k = step_goes h m (steps.Protect ns) k.0 k.1
 
-some_stage : (ns : List ℕ) (words : LiveWords) (h : HeapState) (r : Result Bool Refusal) (q : PartsState)
-    (g : HeapState) → ProtectsSome ns words h r q g → EndsStage h r g
-some_stage ns words h (Ok b) q g (f, inl k) =
+some_stage : (ns : List ℕ) (most : ℕ) (words : LiveWords) (h : HeapState) (r : Result Bool Refusal) (q : PartsState)
+    (g : HeapState) → ProtectsSome ns most words h r q g → EndsStage h r g
+some_stage ns most words h (Ok b) q g (f, inl k) =
     let m = k.1.0 in and_then h m g (protects_goes h m ns k.1.1) (crosses_goes m g k.1.2)
-some_stage ns words h (Ok b) q g (f, inr k) = subst (Collects h) (sym k.1) (none h)
-some_stage ns words h (Err e) q g (inl k) = inr k
-some_stage ns words h (Err e) q g (inr k) =
+some_stage ns most words h (Ok b) q g (f, inr k) = subst (Collects h) (sym k.1) (none h)
+some_stage ns most words h (Err e) q g (inl k) = inr k
+some_stage ns most words h (Err e) q g (inr k) =
     let m = k.1.0 in
     let first : Collects h m = protects_goes h m ns k.1.1 in
     inl (and_then h m g first (crossings_collect WORKER m g k.1.2.0), (m, first, Crossing k.1.2))
 
-on_stage : (ns : List ℕ) (words : LiveWords) (h : HeapState) (r : Result Bool Refusal) (q : PartsState) (g : HeapState)
-    → ProtectsOn ns words h r q g → EndsStage h r g
-on_stage [] words h (Ok b) q g k = subst (Collects h) (sym k.1) (none h)
-on_stage [] words h (Err e) q g k = absurd k
-on_stage (n ∷ ns) words h r q g k = some_stage (n ∷ ns) words h r q g k
+on_stage : (ns : List ℕ) (most : ℕ) (words : LiveWords) (h : HeapState) (r : Result Bool Refusal) (q : PartsState)
+    (g : HeapState) → ProtectsOn ns most words h r q g → EndsStage h r g
+on_stage [] most words h (Ok b) q g k = subst (Collects h) (sym k.1) (none h)
+on_stage [] most words h (Err e) q g k = absurd k
+on_stage (n ∷ ns) most words h r q g k = some_stage (n ∷ ns) most words h r q g k
 
 all_stage : (p : PartsState) (h : HeapState) (r : Result Bool Refusal) (q : PartsState) (g : HeapState)
     → ChoosesAll p h r q g → EndsStage h r g
-all_stage p h (Ok b) q g k = on_stage k.0 (with_copied k.1 p.words) h (Ok b) q g k.3
+all_stage p h (Ok b) q g k = on_stage k.0 p.most (with_copied k.1 p.words) h (Ok b) q g k.3
 all_stage p h (Err e) q g (inl k) = inr k
-all_stage p h (Err e) q g (inr k) = on_stage k.0 (with_copied k.1 p.words) h (Err e) q g k.3
+all_stage p h (Err e) q g (inr k) = on_stage k.0 p.most (with_copied k.1 p.words) h (Err e) q g k.3
 
 if_stage : (b : Bool) (p : PartsState) (h : HeapState) (r : Result Bool Refusal) (q : PartsState) (g : HeapState)
     → PreparesIf b p h r q g → EndsStage h r g
@@ -307,8 +312,8 @@ stage_in stages.Choose percent budget p h (Err e) q g k = inr k
 stage_in stages.Prepare percent budget p h r q g k = if_stage (nat_le (preparings budget p h) p.next) p h r q g k
 stage_in stages.Empty percent budget p h (Ok b) q g (inl k) = subst (Collects h) (sym k.2) (none h)
 stage_in stages.Empty percent budget p h (Ok b) q g (inr k) =
-    let m = k.2.2.0 in and_then h m g (crosses_goes h m k.2.2.1) k.2.2.2.goes
-stage_in stages.Empty percent budget p h (Err e) q g k = inl k.1
+    let m = k.2.2.0 in and_then h m g (crosses_goes h m k.2.2.2) k.2.2.3.goes
+stage_in stages.Empty percent budget p h (Err e) q g k = inl (one_stops k.1.0 h e g k.1.2)
 
 pub goes_stage : (percent budget : ℕ) (p : PartsState) (h : HeapState) (r : Result Bool Refusal) (q : PartsState)
     (g : HeapState) → GoesOn percent budget p h r q g → EndsStage h r g

@@ -115,10 +115,11 @@ Paces all free percent budget p h q g =
     PacesWhole all free percent budget p h q g ⊎ PacesLast all free percent budget p h q g
 
 -- Paces, and then thread t was to make an object
-abbrev pub PacesAndMakes : ℕ → ℕ → ℕ → ℕ → ℕ → ℕ → ℕ → PartsState → HeapState → Result ℕ Refusal → PartsState → HeapState
-    → Type 0
+abbrev pub PacesAndMakes : ℕ → ℕ → ℕ → ℕ → ℕ → ℕ → ℕ → PartsState → HeapState → Result ℕ Refusal → PartsState
+    → HeapState → Type 0
 PacesAndMakes t words percent free budget target layout p h r q g =
-    (m : HeapState) × Paces (is_urgent free p h) free percent budget p h q m × EndsMaking t words percent target layout m r g
+    (m : HeapState) × Paces (is_urgent free p h) free percent budget p h q m
+    × EndsMaking t words percent target layout m r g
 
 -- the parts come only if the thread's buffer has no space
 abbrev pub MakesPacedIf : Bool → ℕ → ℕ → ℕ → ℕ → ℕ → ℕ → ℕ → PartsState → HeapState → Result ℕ Refusal → PartsState

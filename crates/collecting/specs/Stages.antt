@@ -12,19 +12,20 @@ use Rattle.model.specs.Outcome.{outcome}
 use Rattle.model.specs.Protections.{free_count, no_page_in, unused_count}
 use Rattle.model.specs.States.{HeapState}
 use Rattle.model.specs.Tallies.{most_counted}
-use Rattle.managed.specs.Collecting.{Crosses, StopsCrossing}
+use Rattle.managed.specs.Collecting.{Crosses, EndsCrossing, StopsCrossing}
 use Rattle.managed.specs.Emptying.{Protects}
 use Rattle.managed.specs.Goings.{Goes, IsScrub}
+use Rattle.managed.specs.Sequences.{Then}
 use Rattle.collecting.specs.declared.words.LiveWords.{LiveWords}
 use Rattle.collecting.specs.declared.parts.Stage.{Stage}
 use Rattle.collecting.specs.declared.parts.Stage.TheVariants as stages
-use Rattle.collecting.specs.Collections.{WORKER, Collects, LeftPage}
+use Rattle.collecting.specs.Collections.{WORKER, Collects, EndsLeft}
 use Rattle.collecting.specs.Parts.{LacksMemory, Stops, is_memory}
 
 -- how far a collection in parts has come: its stage; the sparse pages found so far, each after its live words; the
 -- pages that were chosen to be emptied; how many pages were measured, how many parts have prepared frames, or how many
--- of the chosen pages were emptied; how many frames are to be prepared; and how many words live on the pages that were
--- measured, and on those that were chosen
+-- of the chosen pages were emptied; how many frames are to be prepared; how many words live on the pages that were
+-- measured, and on those that were chosen; and how many pages with live objects are emptied at most
 pub record PartsState : Type 0 where
   pub stage : Stage
   pub found : List (ℕ × ℕ)
@@ -32,18 +33,27 @@ pub record PartsState : Type 0 where
   pub next : ℕ
   pub frames : ℕ
   pub words : LiveWords
+  pub most : ℕ
 
 -- nothing is measured
 abbrev pub no_words : LiveWords
 no_words = record { all = 0; copied = 0 }
 
--- before the first part of a collection
-abbrev pub first_parts : PartsState
-first_parts = record { stage = stages.Mark; found = []; chosen = []; next = 0; frames = 0; words = no_words }
+-- at the beginning of a stage, with `most` pages to be emptied at most, these pages chosen, and these words measured
+abbrev pub at_stage : Stage → ℕ → List ℕ → LiveWords → PartsState
+at_stage s most chosen words = record {
+  stage = s;
+  found = [];
+  chosen = chosen;
+  next = 0;
+  frames = 0;
+  words = words;
+  most = most;
+}
 
--- at the beginning of a stage, with these pages chosen, and these words measured
-abbrev pub at_stage : Stage → List ℕ → LiveWords → PartsState
-at_stage s chosen words = record { stage = s; found = []; chosen = chosen; next = 0; frames = 0; words = words }
+-- before the first part of a collection: no number of pages is too many
+abbrev pub first_parts : PartsState
+first_parts = at_stage stages.Mark (2 ^ 32 - 1) [] no_words
 
 -- how many pages of `words` words a part with this budget measures: as many as have 64 words for each object of the
 -- budget, and one more
@@ -98,6 +108,10 @@ has_live p = nat_lt 0 p.0
 abbrev pub dead_count : List (ℕ × ℕ) → ℕ
 dead_count ps = unwrap_or (position has_live ps) (length ps)
 
+-- the first pages: those up to the first that has live objects, and at most `most` more
+abbrev pub first_of : ℕ → List (ℕ × ℕ) → List (ℕ × ℕ)
+first_of most ps = take (dead_count ps + most) ps
+
 -- how many of n pages are emptied, if the first `dead` have no live objects: all except a sixteenth of the others,
 -- so that objects that are made meanwhile find frames
 abbrev pub emptied_of : ℕ → ℕ → ℕ
@@ -107,11 +121,11 @@ emptied_of dead n = n - (n - dead) / 16
 abbrev pub found_words : List (ℕ × ℕ) → ℕ
 found_words ps = min (sum_by (λ (p : ℕ × ℕ). p.0) ps) (2 ^ 60)
 
--- of the pages that were found, those with the fewest live words, as many as there is space for, except a sixteenth
--- of those with live objects; and how many words these have
-abbrev pub IsChosen : HeapState → List (ℕ × ℕ) → List ℕ → ℕ → Type 0
-IsChosen h found xs copied = (ps : List (ℕ × ℕ)) × (ns : List ℕ) × IsPermutation found ps × IsRising ps
-    × IsFitting h (map page_of ps) ns × (xs ≡ take (emptied_of (dead_count ps) (length ns)) ns)
+-- of the pages that were found, those with the fewest live words, at most `most` of those with live objects, and as
+-- many as there is space for, except a sixteenth of those with live objects; and how many words they have
+abbrev pub IsChosen : ℕ → HeapState → List (ℕ × ℕ) → List ℕ → ℕ → Type 0
+IsChosen most h found xs copied = (ps : List (ℕ × ℕ)) × (ns : List ℕ) × IsPermutation found ps × IsRising ps
+    × IsFitting h (map page_of (first_of most ps)) ns × (xs ≡ take (emptied_of (dead_count ps) (length ns)) ns)
     × (copied ≡ found_words (take (length xs) ps))
 
 -- ---- how many frames are prepared
@@ -120,14 +134,15 @@ IsChosen h found xs copied = (ps : List (ℕ × ℕ)) × (ns : List ℕ) × IsPe
 abbrev pub pages_for : ℕ → ℕ → ℕ
 pages_for words n = (n + n / 16 + (max words 1 - 1)) / max words 1
 
--- how many frames are prepared for the objects of the pages that were found: at most as many as pages can open
-abbrev pub frames_for : HeapState → List (ℕ × ℕ) → ℕ
-frames_for h found =
-    min (pages_for h.config.words (found_words found)) (min (free_count h.store) (unused_count h.store))
+-- how many frames are prepared for the objects of the pages that were found, of which at most `most` are emptied: at
+-- most as many as pages can open
+abbrev pub frames_for : HeapState → ℕ → List (ℕ × ℕ) → ℕ
+frames_for h most found =
+    min (min (pages_for h.config.words (found_words found)) most) (min (free_count h.store) (unused_count h.store))
 
 -- all pages are measured: frames are prepared for what was found
 abbrev pub preparing : HeapState → PartsState → PartsState
-preparing h p = record p { stage = stages.Prepare; next = 0; frames = frames_for h p.found }
+preparing h p = record p { stage = stages.Prepare; next = 0; frames = frames_for h p.most p.found }
 
 -- how many pages of `words` words have 32 words for each object of a budget; a part prepares one frame more
 abbrev pub frames_by : ℕ → ℕ → ℕ
@@ -162,7 +177,7 @@ EndsMarking h (Err e) g = Stops h e g
 -- a part of the mark: the next part continues it, or chooses pages, as the mark has ended
 abbrev pub MarksOn : PartsState → HeapState → Result Bool Refusal → PartsState → HeapState → Type 0
 MarksOn p h (Ok b) q g =
-    (b ≡ false) × Collects h g × ((q ≡ p) ⊎ ((q ≡ at_stage stages.Choose p.chosen no_words) × HasEndedMark h g))
+    (b ≡ false) × Collects h g × ((q ≡ p) ⊎ ((q ≡ at_stage stages.Choose p.most p.chosen no_words) × HasEndedMark h g))
 MarksOn p h (Err e) q g = (q ≡ p) × Stops h e g
 
 -- one more of the chosen pages was emptied, or one more part has prepared frames
@@ -170,13 +185,13 @@ abbrev pub passed : PartsState → PartsState
 passed p = record p { next = min (p.next + 1) (2 ^ 32 - 1) }
 
 -- these pages were protected, and all threads have crossed: the next parts empty them
-abbrev pub IsProtected : List ℕ → LiveWords → HeapState → PartsState → HeapState → Type 0
-IsProtected ns words h q g =
-    (q ≡ at_stage stages.Empty ns words) × ((m : HeapState) × Protects WORKER h ns m × Crosses WORKER m g)
+abbrev pub IsProtected : List ℕ → ℕ → LiveWords → HeapState → PartsState → HeapState → Type 0
+IsProtected ns most words h q g =
+    (q ≡ at_stage stages.Empty most ns words) × ((m : HeapState) × Protects WORKER h ns m × Crosses WORKER m g)
 
 -- the protection of pages is rejected, and not for memory, as the choice is out of date: the next part begins anew
-abbrev pub BeginsAnew : List ℕ → LiveWords → HeapState → PartsState → HeapState → Type 0
-BeginsAnew ns words h q g = (q ≡ at_stage stages.Mark ns words) × (g ≡ h)
+abbrev pub BeginsAnew : List ℕ → ℕ → LiveWords → HeapState → PartsState → HeapState → Type 0
+BeginsAnew ns most words h q g = (q ≡ at_stage stages.Mark most ns words) × (g ≡ h)
     × ((e : Refusal) × (is_memory e ≡ false) × (outcome h (Worker WORKER) (steps.Protect ns) ≡ Err e))
 
 -- how the crossing of all threads after the protection of pages ended
@@ -186,24 +201,26 @@ EndsCrossed h (Err e) g = StopsCrossing WORKER h e g
 
 -- the result if Protect is rejected: out of memory, or else the next part begins anew
 abbrev pub TellsAnew : Refusal → PartsState → Result Bool Refusal → PartsState → Type 0
-TellsAnew e p (Ok b) q = (b ≡ false) × (is_memory e ≡ false) × (q ≡ at_stage stages.Mark p.chosen p.words)
+TellsAnew e p (Ok b) q = (b ≡ false) × (is_memory e ≡ false) × (q ≡ at_stage stages.Mark p.most p.chosen p.words)
 TellsAnew e p (Err x) q = (x ≡ e) × (is_memory e ≡ true)
 
 -- chosen pages were protected, or that is rejected, or not all threads have crossed
-abbrev pub ProtectsSome : List ℕ → LiveWords → HeapState → Result Bool Refusal → PartsState → HeapState → Type 0
-ProtectsSome ns words h (Ok b) q g = (b ≡ false) × (IsProtected ns words h q g ⊎ BeginsAnew ns words h q g)
-ProtectsSome ns words h (Err e) q g = LacksMemory h e g
-    ⊎ ((q ≡ at_stage stages.Empty ns words) × ((m : HeapState) × Protects WORKER h ns m × StopsCrossing WORKER m e g))
+abbrev pub ProtectsSome : List ℕ → ℕ → LiveWords → HeapState → Result Bool Refusal → PartsState → HeapState → Type 0
+ProtectsSome ns most words h (Ok b) q g =
+    (b ≡ false) × (IsProtected ns most words h q g ⊎ BeginsAnew ns most words h q g)
+ProtectsSome ns most words h (Err e) q g = LacksMemory h e g
+    ⊎ ((q ≡ at_stage stages.Empty most ns words)
+    × ((m : HeapState) × Protects WORKER h ns m × StopsCrossing WORKER m e g))
 
 -- if no page is chosen nothing is done, and it is the last part
-abbrev pub ChoosesNone : LiveWords → HeapState → Result Bool Refusal → PartsState → HeapState → Type 0
-ChoosesNone words h (Ok b) q g = (q ≡ at_stage stages.Mark [] words) × (g ≡ h)
-ChoosesNone words h (Err e) q g = ⊥
+abbrev pub ChoosesNone : ℕ → LiveWords → HeapState → Result Bool Refusal → PartsState → HeapState → Type 0
+ChoosesNone most words h (Ok b) q g = (q ≡ at_stage stages.Mark most [] words) × (g ≡ h)
+ChoosesNone most words h (Err e) q g = ⊥
 
 -- how the protection of the chosen pages ended
-abbrev pub ProtectsOn : List ℕ → LiveWords → HeapState → Result Bool Refusal → PartsState → HeapState → Type 0
-ProtectsOn [] words h r q g = ChoosesNone words h r q g
-ProtectsOn (n ∷ ns) words h r q g = ProtectsSome (n ∷ ns) words h r q g
+abbrev pub ProtectsOn : List ℕ → ℕ → LiveWords → HeapState → Result Bool Refusal → PartsState → HeapState → Type 0
+ProtectsOn [] most words h r q g = ChoosesNone most words h r q g
+ProtectsOn (n ∷ ns) most words h r q g = ProtectsSome (n ∷ ns) most words h r q g
 
 -- words of which n are copied
 abbrev pub with_copied : ℕ → LiveWords → LiveWords
@@ -211,11 +228,11 @@ with_copied n w = record w { copied = n }
 
 -- some of the pages that were found are chosen; or there was no memory for that
 abbrev pub ChoosesAll : PartsState → HeapState → Result Bool Refusal → PartsState → HeapState → Type 0
-ChoosesAll p h (Ok b) q g = (ns : List ℕ) × (copied : ℕ) × IsChosen h p.found ns copied
-    × ProtectsOn ns (with_copied copied p.words) h (Ok b) q g
+ChoosesAll p h (Ok b) q g = (ns : List ℕ) × (copied : ℕ) × IsChosen p.most h p.found ns copied
+    × ProtectsOn ns p.most (with_copied copied p.words) h (Ok b) q g
 ChoosesAll p h (Err e) q g = LacksMemory h e g
-    ⊎ ((ns : List ℕ) × (copied : ℕ) × IsChosen h p.found ns copied
-    × ProtectsOn ns (with_copied copied p.words) h (Err e) q g)
+    ⊎ ((ns : List ℕ) × (copied : ℕ) × IsChosen p.most h p.found ns copied
+    × ProtectsOn ns p.most (with_copied copied p.words) h (Err e) q g)
 
 -- a part that measures pages; if all are measured, the next part prepares frames
 abbrev pub MeasuresOn : ℕ → ℕ → PartsState → HeapState → Result Bool Refusal → PartsState → HeapState → Type 0
@@ -237,21 +254,17 @@ PreparesIf false p h r q g = PreparesSome p h r q g
 abbrev pub PreparesOn : ℕ → PartsState → HeapState → Result Bool Refusal → PartsState → HeapState → Type 0
 PreparesOn budget p h r q g = PreparesIf (nat_le (preparings budget p h) p.next) p h r q g
 
--- all threads have crossed, and page n isn't being emptied any more
-abbrev pub EmptiesOne : HeapState → ℕ → HeapState → Type 0
-EmptiesOne h n g = (m : HeapState) × Crosses WORKER h m × LeftPage m n g
-
--- EmptiesOne; or it failed with e
-abbrev pub EndsOne : HeapState → ℕ → Result Unit Refusal → HeapState → Type 0
-EndsOne h n (Ok u) g = EmptiesOne h n g
-EndsOne h n (Err e) g = Stops h e g
+-- how the emptying of page n ended: all threads cross, and then the page is emptied, if it is protected
+abbrev pub EndsOne : ℕ → HeapState → Result Unit Refusal → HeapState → Type 0
+EndsOne n h r g = Then (EndsCrossing WORKER) (λ (u : Unit {0}) (m : HeapState). EndsLeft m n) h r g
 
 -- a part that empties the next of the chosen pages: if none is left, it is the last part
 abbrev pub EmptiesOn : PartsState → HeapState → Result Bool Refusal → PartsState → HeapState → Type 0
 EmptiesOn p h (Ok b) q g =
-    ((slice_get p.chosen p.next ≡ None) × (q ≡ at_stage stages.Mark p.chosen p.words) × (g ≡ h))
-    ⊎ ((b ≡ false) × (q ≡ passed p) × ((n : ℕ) × (slice_get p.chosen p.next ≡ Some n) × EmptiesOne h n g))
-EmptiesOn p h (Err e) q g = (q ≡ p) × Stops h e g
+    ((slice_get p.chosen p.next ≡ None) × (q ≡ at_stage stages.Mark p.most p.chosen p.words) × (g ≡ h))
+    ⊎ ((b ≡ false) × (q ≡ passed p) × ((n : ℕ) × (slice_get p.chosen p.next ≡ Some n) × EndsOne n h (Ok tt) g))
+EmptiesOn p h (Err e) q g =
+    (q ≡ p) × ((n : ℕ) × (slice_get p.chosen p.next ≡ Some n) × EndsOne n h (Err e) g)
 
 -- a part, by the stage
 abbrev pub GoesOnIn : Stage → ℕ → ℕ → PartsState → HeapState → Result Bool Refusal → PartsState → HeapState → Type 0

@@ -2,7 +2,7 @@
 
 ghost use Rattle.std.specs.Prelude.{◌≡◌, ◌≤◌, IfOk, length, map, position, take};
 ghost use Rattle.choosing.specs.Choices.{page_of};
-ghost use Rattle.collecting.specs.Stages.{IsFitting, dead_count, emptied_of, has_live};
+ghost use Rattle.collecting.specs.Stages.{IsFitting, dead_count, emptied_of, first_of, has_live};
 
 use choosing::{first_packing, packed_page, room};
 use heap::Heap;
@@ -21,6 +21,14 @@ pub(crate) fn dead_count(pages: &[(u64, u32)]) -> usize
     ensures range { result ≤ length pages.now }
 {
     first_live(pages).unwrap_or(pages.len())
+}
+
+/// Returns the first pages: those up to the first that has live objects, and at most `most` more.
+pub(crate) fn first_of(pages: &[(u64, u32)], most: u32) -> &[(u64, u32)]
+    ensures { result.now ≡ first_of most pages.now }
+{
+    let count = dead_count(pages).saturating_add(most as usize);
+    &pages[..count.min(pages.len())]
 }
 
 /// Returns the first pages, of which the first `dead` have no live object: all except a sixteenth of the others.

@@ -26,8 +26,7 @@ use crate::policy::Policy;
 use crate::seeing::Object;
 use crate::target::Target;
 use crate::{filling, pacing, parts, rooms, seeing};
-use cycle::Mutating;
-use managed::{FieldLoad, LoadsFault, ManagedHeap};
+use managed::{FieldLoad, LoadsFault, ManagedHeap, Mutating};
 use model::{Buffer, Refusal};
 use std::alloc::Global;
 
@@ -432,8 +431,8 @@ impl Holding for ManagedHeap {
     ) -> Result<u64, Refusal>
         ensures stands { MakingStands thread target layout self.old result self.new }
         ensures ends { EndsMaking thread policy.words policy.percent target layout self.old result self.new }
-        ensures paced { MakesPaced thread policy.words policy.percent policy.free budget target layout parts.old self.old
-            result parts.new self.new }
+        ensures paced { MakesPaced thread policy.words policy.percent policy.free budget target layout parts.old
+            self.old result parts.new self.new }
     {
         pacing::make_paced(self, alloc, parts, policy, budget, thread, target, layout)
     }

@@ -23,8 +23,7 @@ use crate::pacing::{lacks_buffer, pace_and_make_counted};
 use crate::parts::Parts;
 use crate::policy::Policy;
 use crate::rooms::{make_counted, refill_counted};
-use cycle::Mutating;
-use managed::ManagedHeap;
+use managed::{ManagedHeap, Mutating};
 use model::{Buffer, Refusal};
 use std::alloc::Global;
 

@@ -13,9 +13,8 @@ use crate::low::are_low;
 use crate::parts::Parts;
 use crate::policy::Policy;
 use crate::rooms::make_counted;
-use cycle::Mutating;
 use heap::Heap;
-use managed::ManagedHeap;
+use managed::{ManagedHeap, Mutating};
 use model::Refusal;
 use std::alloc::Global;
 
@@ -132,8 +131,8 @@ fn pace(
     policy: Policy,
     budget: u32,
 )
-    ensures paces { Paces (is_urgent policy.free parts.old heap.old) policy.free policy.percent budget parts.old heap.old
-        parts.new heap.new }
+    ensures paces { Paces (is_urgent policy.free parts.old heap.old) policy.free policy.percent budget parts.old
+        heap.old parts.new heap.new }
     ensures counts { CountsParts (is_urgent policy.free parts.old heap.old) policy.free policy.percent budget parts.old
         heap.old counters.old parts.new heap.new counters.new }
 {
@@ -192,8 +191,8 @@ fn pace_and_make(
     target: u32,
     layout: u32,
 ) -> Result<u64, Refusal>
-    ensures { PacesAndMakes thread policy.words policy.percent policy.free budget target layout parts.old heap.old result
-        parts.new heap.new }
+    ensures { PacesAndMakes thread policy.words policy.percent policy.free budget target layout parts.old heap.old
+        result parts.new heap.new }
 {
     let mut counters = Counters::new();
     pace_and_make_counted(

@@ -18,7 +18,7 @@ ghost use Rattle.collecting.specs.declared.parts.Stage.TheVariants as stages;
 
 mod measuring;
 
-use crate::chosen::{dead_count, fitting, most_of};
+use crate::chosen::{dead_count, first_of, fitting, most_of};
 use crate::low::in_use;
 use crate::portions::{cross, empty_one, mark_some, may_start_mark, protect};
 use crate::preparing::{first_words, frames_by, frames_for, parts_for, prepare_some};
@@ -54,6 +54,8 @@ pub struct Parts {
     frames: u32,
     /// How many words live on the pages that were measured, and on those that were chosen.
     words: LiveWords,
+    /// How many pages with live objects are emptied at most.
+    most: u32,
 }
 
 impl Model for Parts {
@@ -68,11 +70,13 @@ impl Model for Parts {
       next = p.next;
       frames = p.frames;
       words = p.words;
+      most = p.most;
     } };
 }
 
 impl Parts {
-    /// Returns the state before the first part of a collection.
+    /// Returns the state before the first part of a collection, which empties all sparse pages for whose objects there
+    /// is space.
     pub fn new(alloc: Global) -> Parts
         ensures { result ≡ first_parts }
     {
@@ -83,7 +87,17 @@ impl Parts {
             next: 0,
             frames: 0,
             words: LiveWords::none(),
+            most: u32::MAX,
         }
+    }
+
+    /// Has collections empty at most this many pages with live objects, those with the fewest live words, and all that
+    /// have none: 0 to 2^32 - 1, which is the number at first. So the part that protects pages is shorter, though it
+    /// still goes over all pages; what is left is emptied by later collections, each of which marks the heap.
+    pub fn empty_at_most(&mut self, pages: u32)
+        ensures { self.new ≡ record self.old { most = pages } }
+    {
+        self.most = pages;
     }
 
     /// Returns how many words live on the pages that were measured, and on those that were chosen.
@@ -153,7 +167,7 @@ impl Parts {
 
     /// Continues with another stage, from its beginning.
     fn begin(&mut self, stage: Stage)
-        ensures { self.new ≡ at_stage stage self.old.chosen self.old.words }
+        ensures { self.new ≡ at_stage stage self.old.most self.old.chosen self.old.words }
     {
         self.stage = stage;
         self.next = 0;
@@ -163,7 +177,7 @@ impl Parts {
 
     /// Continues with the measuring of pages, from the first one.
     fn begin_choosing(&mut self)
-        ensures { self.new ≡ at_stage stages.Choose self.old.chosen no_words }
+        ensures { self.new ≡ at_stage stages.Choose self.old.most self.old.chosen no_words }
     {
         self.words = LiveWords::none();
         self.begin(Stage::Choose);
@@ -173,7 +187,7 @@ impl Parts {
     fn begin_preparing(&mut self, heap: &Heap)
         ensures { self.new ≡ preparing heap.now self.old }
     {
-        let frames = frames_for(heap, &self.found);
+        let frames = frames_for(heap, self.most, &self.found);
         self.stage = Stage::Prepare;
         self.next = 0;
         self.frames = frames;
@@ -186,17 +200,18 @@ impl Parts {
         self.frames = 0;
     }
 
-    /// Chooses those of the found pages with the fewest live words, as many as there is space for, except a
-    /// sixteenth of those with live objects.
+    /// Chooses those of the found pages with the fewest live words, at most the allowed number of those with live
+    /// objects, and as many as there is space for, except a sixteenth of those with live objects.
     fn choose(&mut self, alloc: Global, heap: &Heap) -> Result<Vec<u32>, AllocError>
         ensures chosen { IfOk result
-            (λ pages. IsChosen heap.now self.old.found pages.items self.new.words.copied) }
+            (λ pages. IsChosen self.old.most heap.now self.old.found pages.items self.new.words.copied) }
         ensures kept { IfOk result (λ pages. self.new.chosen ≡ pages.items) }
         ensures words { IfOk result
             (λ pages. self.new.words ≡ with_copied self.new.words.copied self.old.words) }
+        ensures most { self.new.most ≡ self.old.most }
     {
         self.found.sort()?;
-        let fitting = fitting(alloc, heap, &self.found)?;
+        let fitting = fitting(alloc, heap, first_of(&self.found, self.most))?;
         let pages = Vec::from_slice(alloc, most_of(&fitting, dead_count(&self.found)))?;
         self.words.copied = first_words(&self.found, pages.len());
         self.chosen = Vec::from_slice(alloc, &pages)?;
@@ -300,7 +315,7 @@ fn cross_part(heap: &mut ManagedHeap) -> Result<bool, Refusal>
 /// Protects the chosen pages, and has all threads cross.
 fn protect_part(heap: &mut ManagedHeap, parts: &mut Parts, pages: Vec<u32>) -> Result<bool, Refusal>
     requires { parts.old.chosen ≡ pages.items }
-    ensures { ProtectsSome pages.items parts.old.words heap.old result parts.new heap.new }
+    ensures { ProtectsSome pages.items parts.old.most parts.old.words heap.old result parts.new heap.new }
 {
     match protect(heap, pages) {
         Ok(()) => {

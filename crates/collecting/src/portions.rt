@@ -166,7 +166,7 @@ fn empty_crossed(heap: &mut ManagedHeap, page: u32) -> Result<(), Refusal>
 
 /// Has all threads cross, and empties a page, if it is protected.
 pub(crate) fn empty_one(heap: &mut ManagedHeap, page: u32) -> Result<(), Refusal>
-    ensures { EndsOne heap.old page result heap.new }
+    ensures { EndsOne page heap.old result heap.new }
 {
     match cross(heap) {
         Ok(()) => empty_crossed(heap, page),

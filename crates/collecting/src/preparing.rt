@@ -39,13 +39,16 @@ fn pages_for(words: u32, live: u64) -> u64
     (live + live / 16 + (words - 1)) / words
 }
 
-/// Returns how many frames are prepared for the objects of the pages that were found, at most as many as pages can
-/// open.
-pub(crate) fn frames_for(heap: &Heap, pages: &[(u64, u32)]) -> u32
-    ensures { result ≡ frames_for heap.now pages.now }
+/// Returns how many frames are prepared for the objects of the pages that were found, of which at most `most` are
+/// emptied: at most as many as pages can open.
+pub(crate) fn frames_for(heap: &Heap, most: u32, pages: &[(u64, u32)]) -> u32
+    ensures { result ≡ frames_for heap.now most pages.now }
 {
     let needed = pages_for(heap.config().words, found_words(pages));
-    u32::try_from(needed).unwrap_or(u32::MAX).min(room(heap))
+    u32::try_from(needed)
+        .unwrap_or(u32::MAX)
+        .min(most)
+        .min(room(heap))
 }
 
 /// Returns how many pages of `words` words have 32 words for each of `budget` objects. A part prepares one frame more.

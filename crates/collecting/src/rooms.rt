@@ -12,8 +12,7 @@ use crate::cycles::mark_whole;
 use crate::low::are_low;
 use crate::marking::Alone;
 use crate::policy::Policy;
-use cycle::Mutating;
-use managed::ManagedHeap;
+use managed::{ManagedHeap, Mutating};
 use model::{Buffer, Refusal};
 use std::alloc::Global;
 

@@ -1,4 +1,4 @@
-//! The steps of threads, each with its reply, out of line.
+//! The steps of threads, each with its reply, out of line: so `thread_step` stays small enough to be inlined.
 
 ghost use Rattle.std.specs.Prelude.{◌≡◌};
 ghost use Rattle.model.specs.Refusing.{Does, DoesStep};

@@ -1,19 +1,38 @@
-//! The steps of threads, each a call that makes its leading tests and returns a plain value.
+//! The steps of threads, each a function that makes its leading tests, does the step, and returns its answer as a
+//! plain value.
+//!
+//! Threads, registers, layouts, fields, data words and globals are numbers from 0. Each function has the outcome of
+//! `Stepping::step` of its step: `docs/STEPS.md` has its tests in order, its answer and its effect. If it fails,
+//! nothing changes.
 
 ghost use Rattle.std.specs.Prelude.{◌≡◌, Some, IfOk};
 ghost use Rattle.model.specs.Buffers.{buffer_of_thread};
 ghost use Rattle.model.specs.Saying.{done, loaded, lent, trapped, healed, scrubbed};
 ghost use Rattle.model.specs.declared.steps.Step.TheVariants as steps;
 ghost use Rattle.model.specs.declared.steps.Answer.TheVariants as answers;
-ghost use Rattle.cycle.specs.Mutating.{DoesThread};
+ghost use Rattle.cycle.specs.Mutating.{DoesThread, StepsStand};
 
 use crate::gate::thread_gate;
 use heap::Heap;
 use model::{Buffer, Refusal, Step, Trap};
 
+/// Proves that each step from this heap keeps what the heap represents, also by a function here: if it represents a
+/// reference model, in which no object moves or is freed, it also does after the step, whose answer is the reference
+/// model's. It changes nothing and can't fail.
+#[inline(always)]
+#[tactic(auto, using(crate::proofs::Replaying::keeps_standing))]
+pub fn law(heap: &Heap)
+    ensures { StepsStand heap.now }
+{
+    heap.law();
+    refinement::law();
+}
+
+/// Takes a buffer of a number of words for the thread, and returns it. Fails with `Memory` if out of memory for a fresh
+/// page; no other function here does.
 #[inline(always)]
 #[tactic(auto, unfolding(model::specs::Outcome::outcome))]
-pub(crate) fn take(heap: &mut Heap, thread: u32, words: u32) -> Result<Buffer, Refusal>
+pub fn take(heap: &mut Heap, thread: u32, words: u32) -> Result<Buffer, Refusal>
     ensures does { DoesThread lent heap.old thread (steps.Take words) result heap.new }
     ensures buffer { IfOk result (λ buffer. buffer_of_thread heap.new thread ≡ Some buffer) }
 {
@@ -21,32 +40,30 @@ pub(crate) fn take(heap: &mut Heap, thread: u32, words: u32) -> Result<Buffer, R
     heap.take_row(thread, words)
 }
 
+/// Gives the thread's buffer back.
 #[inline(always)]
 #[tactic(auto, unfolding(model::specs::Outcome::outcome))]
-pub(crate) fn give_back(heap: &mut Heap, thread: u32) -> Result<(), Refusal>
+pub fn give_back(heap: &mut Heap, thread: u32) -> Result<(), Refusal>
     ensures { DoesThread done heap.old thread steps.GiveBack result heap.new }
 {
     thread_gate(heap, thread, &Step::GiveBack)?;
     heap.give_back_row(thread)
 }
 
+/// Allocates an object in the buffer, writes its reference to a register, and returns its birth.
 #[inline(always)]
 #[tactic(auto, unfolding(model::specs::Outcome::outcome))]
-pub(crate) fn new_object(
-    heap: &mut Heap,
-    thread: u32,
-    target: u32,
-    layout: u32,
-) -> Result<u64, Refusal>
+pub fn new_object(heap: &mut Heap, thread: u32, target: u32, layout: u32) -> Result<u64, Refusal>
     ensures { DoesThread answers.Birth heap.old thread (steps.New target layout) result heap.new }
 {
     thread_gate(heap, thread, &Step::New { target, layout })?;
     heap.new_row(thread, target, layout)
 }
 
+/// Begins to load a reference field of an object into a register: opens a read barrier.
 #[inline(always)]
 #[tactic(auto, unfolding(model::specs::Outcome::outcome))]
-pub(crate) fn load(
+pub fn load(
     heap: &mut Heap,
     thread: u32,
     target: u32,
@@ -64,14 +81,10 @@ pub(crate) fn load(
     barrier::load(heap, thread, target, object, field)
 }
 
+/// Begins to load a global into a register: opens a read barrier.
 #[inline(always)]
 #[tactic(auto, unfolding(model::specs::Outcome::outcome))]
-pub(crate) fn load_global(
-    heap: &mut Heap,
-    thread: u32,
-    target: u32,
-    global: u32,
-) -> Result<(), Refusal>
+pub fn load_global(heap: &mut Heap, thread: u32, target: u32, global: u32) -> Result<(), Refusal>
     ensures { DoesThread loaded heap.old thread (steps.LoadGlobal target global) result heap.new }
 {
     thread_gate(heap, thread, &Step::LoadGlobal { target, global })?;
@@ -79,35 +92,39 @@ pub(crate) fn load_global(
     Ok(())
 }
 
+/// Corrects or marks the reference in the barrier, and returns which trap was due.
 #[inline(always)]
 #[tactic(auto, unfolding(model::specs::Outcome::outcome))]
-pub(crate) fn trap(heap: &mut Heap, thread: u32) -> Result<Trap, Refusal>
+pub fn trap(heap: &mut Heap, thread: u32) -> Result<Trap, Refusal>
     ensures { DoesThread trapped heap.old thread steps.Trap result heap.new }
 {
     thread_gate(heap, thread, &Step::Trap)?;
     barrier::trap(heap, thread)
 }
 
+/// Writes the reference in the barrier back to the place of the load. Returns false if that has changed.
 #[inline(always)]
 #[tactic(auto, unfolding(model::specs::Outcome::outcome))]
-pub(crate) fn heal(heap: &mut Heap, thread: u32) -> Result<bool, Refusal>
+pub fn heal(heap: &mut Heap, thread: u32) -> Result<bool, Refusal>
     ensures { DoesThread healed heap.old thread steps.Heal result heap.new }
 {
     thread_gate(heap, thread, &Step::Heal)?;
     barrier::heal(heap, thread)
 }
 
+/// Ends the load: its register gets the reference in the barrier, which closes.
 #[inline(always)]
 #[tactic(auto, unfolding(model::specs::Outcome::outcome))]
-pub(crate) fn finish(heap: &mut Heap, thread: u32) -> Result<(), Refusal>
+pub fn finish(heap: &mut Heap, thread: u32) -> Result<(), Refusal>
     ensures { DoesThread done heap.old thread steps.Finish result heap.new }
 {
     thread_gate(heap, thread, &Step::Finish)?;
     barrier::finish(heap, thread)
 }
 
+/// Writes a register's reference to a field of an object.
 #[inline(always)]
-pub(crate) fn store(
+pub fn store(
     heap: &mut Heap,
     thread: u32,
     object: u32,
@@ -144,22 +161,19 @@ fn store_by_tests(
     heap.store_row(thread, object, field, source)
 }
 
+/// Writes a register's reference to a global.
 #[inline(always)]
 #[tactic(auto, unfolding(model::specs::Outcome::outcome))]
-pub(crate) fn store_global(
-    heap: &mut Heap,
-    thread: u32,
-    global: u32,
-    source: u32,
-) -> Result<(), Refusal>
+pub fn store_global(heap: &mut Heap, thread: u32, global: u32, source: u32) -> Result<(), Refusal>
     ensures { DoesThread done heap.old thread (steps.StoreGlobal global source) result heap.new }
 {
     thread_gate(heap, thread, &Step::StoreGlobal { global, source })?;
     heap.store_global_row(thread, global, source)
 }
 
+/// Reads a data word of an object.
 #[inline(always)]
-pub(crate) fn datum(heap: &Heap, thread: u32, object: u32, index: u32) -> Result<u64, Refusal>
+pub fn datum(heap: &Heap, thread: u32, object: u32, index: u32) -> Result<u64, Refusal>
     ensures { DoesThread answers.Datum heap.now thread (steps.Datum object index) result heap.now }
 {
     match heap.datum_at_once(thread, object, index) {
@@ -179,8 +193,9 @@ fn datum_by_tests(heap: &Heap, thread: u32, object: u32, index: u32) -> Result<u
     heap.datum_row(thread, object, index)
 }
 
+/// Writes a data word of an object.
 #[inline(always)]
-pub(crate) fn set_datum(
+pub fn set_datum(
     heap: &mut Heap,
     thread: u32,
     object: u32,
@@ -217,32 +232,30 @@ fn set_datum_by_tests(
     heap.set_datum_row(thread, object, index, value)
 }
 
+/// Returns whether two registers refer to the same object, or are both null.
 #[inline(always)]
 #[tactic(auto, unfolding(model::specs::Outcome::outcome))]
-pub(crate) fn same(heap: &Heap, thread: u32, left: u32, right: u32) -> Result<bool, Refusal>
+pub fn same(heap: &Heap, thread: u32, left: u32, right: u32) -> Result<bool, Refusal>
     ensures { DoesThread answers.Truth heap.now thread (steps.Same left right) result heap.now }
 {
     thread_gate(heap, thread, &Step::Same { left, right })?;
     heap.same_row(thread, left, right)
 }
 
+/// Returns whether a register is null.
 #[inline(always)]
 #[tactic(auto, unfolding(model::specs::Outcome::outcome))]
-pub(crate) fn is_null(heap: &Heap, thread: u32, register: u32) -> Result<bool, Refusal>
+pub fn is_null(heap: &Heap, thread: u32, register: u32) -> Result<bool, Refusal>
     ensures { DoesThread answers.Truth heap.now thread (steps.IsNull register) result heap.now }
 {
     thread_gate(heap, thread, &Step::IsNull(register))?;
     Ok(heap.is_null_row(thread, register))
 }
 
+/// Copies a register's reference to another register.
 #[inline(always)]
 #[tactic(auto, unfolding(model::specs::Outcome::outcome))]
-pub(crate) fn copy_register(
-    heap: &mut Heap,
-    thread: u32,
-    target: u32,
-    source: u32,
-) -> Result<(), Refusal>
+pub fn copy_register(heap: &mut Heap, thread: u32, target: u32, source: u32) -> Result<(), Refusal>
     ensures { DoesThread done heap.old thread (steps.CopyReg target source) result heap.new }
 {
     thread_gate(heap, thread, &Step::CopyReg { target, source })?;
@@ -250,9 +263,10 @@ pub(crate) fn copy_register(
     Ok(())
 }
 
+/// Makes a register null.
 #[inline(always)]
 #[tactic(auto, unfolding(model::specs::Outcome::outcome))]
-pub(crate) fn clear_register(heap: &mut Heap, thread: u32, target: u32) -> Result<(), Refusal>
+pub fn clear_register(heap: &mut Heap, thread: u32, target: u32) -> Result<(), Refusal>
     ensures { DoesThread done heap.old thread (steps.ClearReg target) result heap.new }
 {
     thread_gate(heap, thread, &Step::ClearReg(target))?;
@@ -260,27 +274,30 @@ pub(crate) fn clear_register(heap: &mut Heap, thread: u32, target: u32) -> Resul
     Ok(())
 }
 
+/// Crosses the open checkpoint.
 #[inline(always)]
 #[tactic(auto, unfolding(model::specs::Outcome::outcome))]
-pub(crate) fn cross(heap: &mut Heap, thread: u32) -> Result<(), Refusal>
+pub fn cross(heap: &mut Heap, thread: u32) -> Result<(), Refusal>
     ensures { DoesThread done heap.old thread steps.Cross result heap.new }
 {
     thread_gate(heap, thread, &Step::Cross)?;
     checkpoint::cross(heap, thread)
 }
 
+/// Corrects a register that refers to a protected page. Returns whether it did.
 #[inline(always)]
 #[tactic(auto, unfolding(model::specs::Outcome::outcome))]
-pub(crate) fn scrub(heap: &mut Heap, thread: u32, register: u32) -> Result<bool, Refusal>
+pub fn scrub(heap: &mut Heap, thread: u32, register: u32) -> Result<bool, Refusal>
     ensures { DoesThread scrubbed heap.old thread (steps.Scrub register) result heap.new }
 {
     thread_gate(heap, thread, &Step::Scrub(register))?;
     checkpoint::scrub(heap, thread, register)
 }
 
+/// Parks the thread: it may do nothing but `unpark`.
 #[inline(always)]
 #[tactic(auto, unfolding(model::specs::Outcome::outcome))]
-pub(crate) fn park(heap: &mut Heap, thread: u32) -> Result<(), Refusal>
+pub fn park(heap: &mut Heap, thread: u32) -> Result<(), Refusal>
     ensures { DoesThread done heap.old thread steps.Park result heap.new }
 {
     thread_gate(heap, thread, &Step::Park)?;
@@ -288,9 +305,10 @@ pub(crate) fn park(heap: &mut Heap, thread: u32) -> Result<(), Refusal>
     Ok(())
 }
 
+/// Lets the thread run again.
 #[inline(always)]
 #[tactic(auto, unfolding(model::specs::Outcome::outcome))]
-pub(crate) fn unpark(heap: &mut Heap, thread: u32) -> Result<(), Refusal>
+pub fn unpark(heap: &mut Heap, thread: u32) -> Result<(), Refusal>
     ensures { DoesThread done heap.old thread steps.Unpark result heap.new }
 {
     thread_gate(heap, thread, &Step::Unpark)?;

@@ -37,11 +37,10 @@
 
 mod arms;
 mod book;
-mod calls;
+pub mod calls;
 mod draining;
 mod gate;
 mod loading;
-mod mutating;
 mod pages;
 mod running;
 mod saying;
@@ -53,7 +52,6 @@ pub use entries::{Entry, EntryRef, History};
 pub use gate::{thread_gate, worker_gate};
 pub use loading::{MOST_TRAPS, heal_is_due, is_clear, three_traps};
 pub use model::{Actor, Answer, Buffer, PageList, Reply, Step, Trap};
-pub use mutating::Mutating;
 pub use relocate::PieceGate;
 pub use running::run;
 pub use stepping::Stepping;

@@ -54,7 +54,9 @@ fn actor_row(heap: &mut Heap, actor: Actor, step: &Step) -> Reply
     }
 }
 
-/// Does the step of a thread: its call, and the answer that the value represents.
+/// Does the step of a thread: its call, which makes the leading tests, and the answer that the value represents. Tests
+/// before this match, as a worker's step has them, take more instructions: the call knows the kind of its step, and
+/// looks its thread up once for its tests and its effect.
 #[inline(always)]
 #[tactic(auto, unfolding(model::specs::Outcome::outcome, model::specs::Outcome::thread_gate))]
 fn thread_step(heap: &mut Heap, thread: u32, step: &Step) -> Reply

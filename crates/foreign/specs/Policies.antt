@@ -48,6 +48,10 @@ RefillsBy p t h code g = ByPolicy p (CodedBy plain_code (Refilled p.words p.perc
 abbrev pub percent_fault : ℕ → Option PolicyFault
 percent_fault percent = if nat_lt 100 percent then Some policies.Percent else None
 
+-- collections in parts are to empty at most `most` pages with live objects each; nothing else changed
+abbrev pub Limits : ℕ → Held → ℕ → Held → Type 0
+Limits most h code g = (code ≡ 0) × (g ≡ record h { parts = record h.parts { most = most } })
+
 -- InRange for a call with a percentage: S is that nothing was written
 abbrev pub ByPercent : Option PolicyFault → Type 0 → (Held → ℕ → Held → Type 0) → Held → ℕ → Held → Type 0
 ByPercent None S P h code g = P h code g

@@ -1,8 +1,8 @@
 //! Collections.
 
 ghost use Rattle.std.specs.Prelude.{◌≡◌};
-ghost use Rattle.foreign.specs.Calls.{IsTold, OnHeldOr};
-ghost use Rattle.foreign.specs.Policies.{CollectsBy, CollectsHeld, PartHeld, PartsBy};
+ghost use Rattle.foreign.specs.Calls.{IsTold, OnHeld, OnHeldOr};
+ghost use Rattle.foreign.specs.Policies.{CollectsBy, CollectsHeld, Limits, PartHeld, PartsBy};
 
 use crate::codes::{DONE, NO_HEAP, policy_code, refusal_code};
 use crate::handle::Handle;
@@ -80,6 +80,19 @@ pub extern "C" fn pauseless_collect(
         return NO_HEAP;
     };
     collect_tested(alloc, held, percent, done)
+}
+
+/// Has collections in parts empty at most this many pages with live objects each.
+#[tactic(auto, using(crate::proofs::Calling::on_held))]
+#[unsafe(no_mangle)]
+pub extern "C" fn pauseless_empty_at_most(heap: &mut Handle, pages: u32) -> u32
+    ensures { OnHeld (Limits pages) heap.old.slot.held result heap.new.slot.held }
+{
+    let Some(held) = heap.lend() else {
+        return NO_HEAP;
+    };
+    held.parts.empty_at_most(pages);
+    DONE
 }
 
 /// Does the next part of the collection of a heap.

@@ -13,7 +13,7 @@ use crate::handle::Handle;
 use crate::refusals::{get_code, set_code};
 use crate::which::copy_data_code;
 use collecting::Holding;
-use cycle::Mutating;
+use managed::Mutating;
 
 /// Reads a data word by its tests, if it isn't read at once.
 #[tactic(auto, using(crate::proofs::Calling::looked))]

@@ -17,7 +17,7 @@ use crate::policies::{make_tested, make_with_tested, refill_tested};
 use crate::refusals::{give_back_code, new_object_code, take_code};
 use crate::which::look_code;
 use collecting::{Counting, Holding, Object, Policy};
-use cycle::Mutating;
+use managed::Mutating;
 use model::{Buffer, Refusal};
 use std::alloc::Global;
 

@@ -14,8 +14,7 @@ use crate::refusals::{
     store_global_code,
 };
 use crate::which::loads_code;
-use cycle::Mutating;
-use managed::{FieldLoad, LoadsFault, ManagedHeap};
+use managed::{FieldLoad, LoadsFault, ManagedHeap, Mutating};
 use std::alloc::Global;
 
 /// Returns the code of several loads of an object, and writes for C how many are done.

@@ -3,7 +3,8 @@
 ghost use Rattle.std.specs.Prelude.{◌≡◌};
 ghost use Rattle.collecting.specs.declared.numbers.Number.TheVariants as numbers;
 ghost use Rattle.foreign.specs.Calls.{Gives, IsSeen};
-ghost use Rattle.foreign.specs.Views.{IsPlace, ReadsPlace, ViewsDatum, ViewsField, ViewsGlobal, ViewsObject, ViewsRegister};
+ghost use Rattle.foreign.specs.Views.{IsPlace, ReadsPlace, ViewsDatum, ViewsField, ViewsGlobal, ViewsObject};
+ghost use Rattle.foreign.specs.Views.{ViewsRegister};
 ghost use Rattle.foreign.specs.Which.{kind_code, place_code, plain_code, view_code};
 
 use crate::codes::{DONE, NO_HEAP, refusal_code};

@@ -4,8 +4,8 @@ ghost use Rattle.std.specs.Prelude.{◌≡◌, ◌||◌, slice_get};
 ghost use Rattle.std.specs.List.{list_any};
 ghost use Rattle.model.specs.Outcome.{no_register};
 ghost use Rattle.foreign.specs.Codes.{class_of, refusal_code};
-ghost use Rattle.foreign.specs.Which.{copy_data_code, fill_code, fill_number, is_larger, is_place, kind_code, lacking, load_code};
-ghost use Rattle.foreign.specs.Which.{copy_data_number, look_code};
+ghost use Rattle.foreign.specs.Which.{copy_data_code, copy_data_number, fill_code, fill_number, is_larger, is_place};
+ghost use Rattle.foreign.specs.Which.{kind_code, lacking, load_code, look_code};
 ghost use Rattle.foreign.specs.Which.{make_code, no_thread, place_code, register_number, step_code, view_code};
 
 use crate::codes::{BAD_INDEX, OBJECT_TOO_LARGE, number_code, refusal_code};

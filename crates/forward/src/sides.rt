@@ -28,10 +28,13 @@ pub struct Sides {
     sides: Vec<Side, Global>,
     /// How many entries of all tables are uncopied.
     left: usize,
-    /// The tables that the last `clear_all` cleared, until `tidy` frees their entries; none before `prepare`.
+    /// The tables that the last `clear_all` cleared, until `tidy` frees their entries; fewer than there are pages until
+    /// space for all of them is made.
     cleared: Vec<Side, Global>,
     /// The tables of `cleared` before this index are freed.
     freed: usize,
+    /// Whether `clear_all` was called.
+    was_cleared: bool,
 }
 
 impl Model for Sides {
@@ -81,6 +84,17 @@ fn exchange(sides: &mut Vec<Side, Global>, cleared: &mut Vec<Side, Global>)
     }
 }
 
+/// Adds empty forwarding tables up to `count`, at most `most`. Fails only if out of memory.
+fn add_empty(sides: &mut Vec<Side, Global>, count: usize, most: u32) -> Result<(), AllocError> {
+    let missing = count.saturating_sub(sides.len());
+    sides.reserve(missing)?;
+    let alloc = *sides.allocator();
+    for _side in 0..missing.min(most as usize) {
+        sides.push(Side::empty(alloc))?;
+    }
+    Ok(())
+}
+
 /// Frees the entries of the next tables, at most of `most`.
 fn free(sides: &mut Vec<Side, Global>, next: &mut usize, most: u32) {
     for _side in 0..most {
@@ -102,6 +116,7 @@ impl Sides {
             left: 0,
             cleared: Vec::new(alloc),
             freed: 0,
+            was_cleared: false,
         })
     }
 
@@ -271,31 +286,31 @@ impl Sides {
         }
     }
 
-    /// Clears all forwarding tables. Their entries are freed later, by `tidy`, if `prepare` has made space for that.
+    /// Clears all forwarding tables. Their entries are freed later, by `tidy`, if there is space for all tables.
     pub fn clear_all(&mut self)
         ensures { self.new ≡ replicate (length self.old) [] }
     {
         exchange(&mut self.sides, &mut self.cleared);
         self.left = 0;
         self.freed = 0;
+        self.was_cleared = true;
     }
 
-    /// Makes space for tables that are cleared, if memory is there for it.
+    /// Makes space for all tables that are cleared next, if memory is there for it.
     pub fn prepare(&mut self)
         ensures { self.new ≡ self.old }
     {
-        if self.cleared.len() == self.sides.len() {
-            return;
-        }
-        if let Ok(cleared) = empty_sides(*self.sides.allocator(), self.sides.len()) {
-            self.cleared = cleared;
-        }
+        let _ = add_empty(&mut self.cleared, self.sides.len(), u32::MAX);
     }
 
-    /// Frees the entries of up to `most` tables that were cleared.
+    /// Frees the entries of up to `most` tables that were cleared. Once `clear_all` was called, it makes space for as
+    /// many more that are cleared next, if memory is there for it.
     pub fn tidy(&mut self, most: u32)
         ensures { self.new ≡ self.old }
     {
         free(&mut self.cleared, &mut self.freed, most);
+        if self.was_cleared {
+            let _ = add_empty(&mut self.cleared, self.sides.len(), most);
+        }
     }
 }

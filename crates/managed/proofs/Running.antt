@@ -19,7 +19,7 @@ use Rattle.refinement.specs.Worlds.{world_of}
 use Rattle.refinement.specs.PlainHeaps.{births_of}
 use Rattle.refinement.specs.Standing.{Holds, FirstHolds, KeepsStanding}
 use Rattle.entries.specs.declared.entry.Entry.{Entry}
-use Rattle.cycle.specs.Mutating.{DoesThread, ThreadStands}
+use Rattle.cycle.specs.Mutating.{DoesThread, StepsStand, ThreadStands}
 use Rattle.cycle.specs.Replays.{Replayed, AnswersAre, after_entry, after_entries, before_entries}
 use Rattle.cycle.proofs.Stepped.{step_accepted, step_refused}
 use Rattle.managed.specs.Runs.{Leads, StandsAfter, Runs}
@@ -95,7 +95,13 @@ managed_step old new actor step (Ok a) does keeps k =
 managed_step old new actor step (Err e) does keeps k =
     subst IsManaged (sym (step_refused old new step e (outcome old actor step) does).1) k
 
--- the same, of a call for a Take
+-- a call for a thread's step keeps what a heap represents
+pub thread_stands : {A : Type 0} (answer : A → Answer) (old new : HeapState) (t : ℕ) (step : Step)
+    (result : Result A Refusal) → DoesThread answer old t step result new → StepsStand old
+    → ThreadStands answer old t step result new
+thread_stands answer old new t step result does stand = stand (Thread t) step (said answer result) new does
+
+-- a managed heap after a call for a Take
 pub managed_take : {A : Type 0} (answer : A → Answer) (old new : HeapState) (t words : ℕ) (result : Result A Refusal)
     → DoesThread answer old t (steps.Take words) result new → ThreadStands answer old t (steps.Take words) result new
     → IsManaged old → IsManaged new

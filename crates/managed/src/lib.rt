@@ -23,7 +23,8 @@ mod threading;
 mod transfer;
 
 pub use batches::{FieldLoad, LoadsFault};
-pub use cycle::{Mutating, Stepping};
+pub use cycle::Stepping;
 pub use heap::{Config, Heap, NewFault, Refusal};
 pub use managed::ManagedHeap;
 pub use model::{Actor, Answer, Buffer, PageList, Reply, Step, Trap};
+pub use mutating::Mutating;

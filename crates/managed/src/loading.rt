@@ -6,7 +6,8 @@ ghost use Rattle.managed.specs.Goings.{EndsLoad, EndsTrap, Goes, IsClear, IsInBa
 ghost use Rattle.managed.specs.Goings.{MayLoadWhole, TrapsLeft};
 
 use crate::managed::ManagedHeap;
-use cycle::{MOST_TRAPS, Mutating, heal_is_due};
+use crate::mutating::Mutating;
+use cycle::{MOST_TRAPS, heal_is_due};
 use model::{Refusal, Trap};
 
 impl ManagedHeap {

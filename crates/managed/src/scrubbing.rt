@@ -6,7 +6,7 @@ ghost use Rattle.managed.specs.Goings.{Goes, IsScrub};
 ghost use Rattle.managed.specs.Scrubbing.{AreScrubbed, IsScrubbed, needs_no_scrub};
 
 use crate::managed::ManagedHeap;
-use cycle::Mutating;
+use crate::mutating::Mutating;
 use model::Phase;
 
 impl ManagedHeap {

@@ -41,14 +41,14 @@ pub use collecting::{
     PolicyFault, Target, collect_by, collect_counted_by, wrong_number,
 };
 pub use cycle::{
-    Actor, Answer, Book, Buffer, Entry, EntryRef, History, Mutating, PageList, Reply, Step, Trap,
-    next_drain, run, three_traps,
+    Actor, Answer, Book, Buffer, Entry, EntryRef, History, PageList, Reply, Step, Trap, next_drain,
+    run, three_traps,
 };
 pub use drains::{Portion, is_ready};
 pub use heap::{Config, ConfigFault, NewFault, Refusal};
 pub use heap_images::{image_of, verify};
 pub use layout::{Layout, Layouts};
-pub use managed::{FieldLoad, LoadsFault, ManagedHeap};
+pub use managed::{FieldLoad, LoadsFault, ManagedHeap, Mutating};
 pub use portions::{
     CollectorSeat, Handle, Mutator, MutatorCalls, OpenFault, Seats, SharedHeap, ThreadSeat, View,
 };

@@ -36,7 +36,8 @@ entries_stay P f h g (e ∷ es) each leads = all_then h leads.0 g
     (step_stays h e.actor e.step leads.0 e.answer (f e.actor e.step each.0) leads.1)
     (entries_stay P f leads.0 g es each.1 leads.2)
 
-pub goes_stay : (P : Actor → Step → Type 0) → ((a : Actor) (s : Step) → P a s → disturbs a s ≡ false) → (h g : HeapState)
+pub goes_stay : (P : Actor → Step → Type 0) → ((a : Actor) (s : Step) → P a s → disturbs a s ≡ false)
+    → (h g : HeapState)
     → Goes P h g → AllStay h g
 goes_stay P f h g k = entries_stay P f h g k.entries k.each k.runs.steps
 

@@ -21,7 +21,8 @@ use Rattle.model.specs.declared.steps.Step.{Step}
 use Rattle.model.specs.declared.steps.Step.TheVariants as steps
 use Rattle.model.specs.Births.{new_outcome, place_object, hand_object}
 use Rattle.model.specs.Bits.{of_page, bit_on}
-use Rattle.model.specs.Buffers.{take_outcome, take_result, lend_buffer, give_back_outcome, with_buffer, buffer_of_thread}
+use Rattle.model.specs.Buffers.{take_outcome, take_result, lend_buffer, give_back_outcome, with_buffer}
+use Rattle.model.specs.Buffers.{buffer_of_thread}
 use Rattle.model.specs.Checkpoints.{with_crossed, with_marked_word, with_marked_register, with_marked_registers}
 use Rattle.model.specs.Checkpoints.{marked_at_crossing, cross_thread, may_cross, cross_outcome, cross_for_outcome}
 use Rattle.model.specs.Cycles.{start_mark, start_mark_outcome, end_mark, end_mark_outcome, has_todo, none_pending}
@@ -48,7 +49,8 @@ use Rattle.model.specs.Scans.{mark_place, with_marked_place, with_scan_end, scan
 use Rattle.model.specs.Scans.{with_marked_global, is_todo_in, reference_in}
 use Rattle.model.specs.States.{HeapState, ThreadState, Reference}
 use Rattle.model.specs.Stores.{StoreState, take_buffer, word_at, state_at, is_from}
-use Rattle.model.specs.Threads.{set_register_of, set_buffer_of, set_barrier_of, set_loaded_of, set_crossed_of, barrier_of, is_parked_in}
+use Rattle.model.specs.Threads.{set_register_of, set_buffer_of, set_barrier_of, set_loaded_of, set_crossed_of}
+use Rattle.model.specs.Threads.{barrier_of, is_parked_in}
 use Rattle.model.specs.Traps.{gc_trap, trap_outcome, scrub_outcome}
 use Rattle.refinement.proofs.Accepted.{OnAccepted, of_accepted, on_bind, on_some, on_test, on_truth, on_either}
 use Rattle.refinement.proofs.Accepted.{on_unless}

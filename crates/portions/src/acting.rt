@@ -20,8 +20,7 @@ use crate::calls::MutatorCalls;
 use crate::mutator::Mutator;
 use crate::settling::settle;
 use collecting::{Collected, Holding, Object, Policy};
-use cycle::Mutating;
-use managed::{FieldLoad, LoadsFault};
+use managed::{FieldLoad, LoadsFault, Mutating};
 use model::{Buffer, Refusal};
 use std::alloc::Global;
 
@@ -57,7 +56,8 @@ impl MutatorCalls for Mutator {
     #[inline(always)]
     fn read(&mut self, target: u32, object: u32, field: u32) -> Result<(), Refusal>
         ensures loads { LoadsWhole self.old.heap self.old.thread (steps.Load target object field) result self.new.heap }
-        ensures stands { LoadStands self.old.heap self.old.thread (steps.Load target object field) result self.new.heap }
+        ensures stands { LoadStands self.old.heap self.old.thread (steps.Load target object field) result
+            self.new.heap }
         ensures on { GoesOn self.old self.new }
     {
         self.heap.read(self.thread, target, object, field)
@@ -66,7 +66,8 @@ impl MutatorCalls for Mutator {
     #[inline(always)]
     fn read_global(&mut self, target: u32, global: u32) -> Result<(), Refusal>
         ensures loads { LoadsWhole self.old.heap self.old.thread (steps.LoadGlobal target global) result self.new.heap }
-        ensures stands { LoadStands self.old.heap self.old.thread (steps.LoadGlobal target global) result self.new.heap }
+        ensures stands { LoadStands self.old.heap self.old.thread (steps.LoadGlobal target global) result
+            self.new.heap }
         ensures on { GoesOn self.old self.new }
     {
         self.heap.read_global(self.thread, target, global)

@@ -6,8 +6,7 @@ ghost use Rattle.portions.specs.Apart.{IsApart, IsStill};
 ghost use Rattle.portions.specs.Portions.{Begins, GoesOn, HoldsInPortion};
 
 use crate::seats::ThreadSeat;
-use cycle::Mutating;
-use managed::ManagedHeap;
+use managed::{ManagedHeap, Mutating};
 use std::marker::Model;
 use viewing::View;
 

@@ -9,9 +9,8 @@ use crate::seats::{CollectorSeat, ThreadSeat, thread_seats};
 use crate::settling::settle;
 use crate::shared::SharedHeap;
 use collecting::Parts;
-use cycle::Mutating;
 use heap::Heap;
-use managed::ManagedHeap;
+use managed::{ManagedHeap, Mutating};
 use model::Refusal;
 use std::alloc::Global;
 

@@ -46,6 +46,15 @@ impl Model for CollectorSeat {
     ghost view = { λ seat. seat.parts };
 }
 
+impl CollectorSeat {
+    /// Has collections in parts empty at most this many pages with live objects each, as `Parts::empty_at_most`.
+    pub fn empty_at_most(&mut self, pages: u32)
+        ensures { self.new ≡ record self.old { most = pages } }
+    {
+        self.parts.empty_at_most(pages);
+    }
+}
+
 /// Makes a seat for each thread of a heap, by their numbers.
 pub(crate) fn thread_seats(alloc: Global, threads: u32) -> Result<Vec<ThreadSeat>, AllocError>
     ensures { IfOk result (λ seats. seats.items ≡ range_with_len 0 threads) }

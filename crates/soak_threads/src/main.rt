@@ -122,8 +122,12 @@ fn run_threads<R: Threads + Wait + Clock + Sync>(
         bail!("the threads aren't 1 to {PLACES}");
     }
     let (shared, seats) = opened(alloc, threads)?;
-    let (mut found, collections) = run_shared(rt, alloc, &shared, seats, turns)?;
-    found.verify(verify_held(alloc, &shared.into_heap()))?;
+    let ran = run_shared(rt, alloc, &shared, seats, turns);
+    let heap = shared.into_heap();
+    let verdict = verify_held(alloc, &heap);
+    drop(heap);
+    let (mut found, collections) = ran?;
+    found.verify(verdict)?;
     let is_complete = found.turns == u64::from(threads).wrapping_mul(u64::from(turns));
     found.expect(is_complete);
     Ok((found, collections))

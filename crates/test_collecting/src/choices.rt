@@ -1,5 +1,6 @@
 //! The pages that parts of a collection choose, and buffers when no page number is free.
 
+use crate::heaps::new_heap;
 use crate::same::same;
 use collecting::{Collected, Holding, Parts, Policy};
 use managed::ManagedHeap;
@@ -7,7 +8,6 @@ use model::{PageState, Refusal};
 use std::alloc::Global;
 use std::process::Abort;
 use std::test::Fail;
-use test_support_heaps::new_heap;
 
 const ME: u32 = 0;
 
@@ -137,6 +137,40 @@ fn empties_dead(
 fn dead_pages_by_one_collection(rt: HostRuntime) -> Result<(), Fail> {
     for budget in [1, 100] {
         empties_dead(&rt, rt.alloc(), new_heap(rt.alloc(), PAGES, PAGES)?, budget)?;
+    }
+    Ok(())
+}
+
+/// A page has no live object, and each other one a single one. A collection empties the former, and of the others as
+/// many as are allowed, whose objects fit into one page; the last collection empties all.
+fn empties_few(
+    rt: &impl Abort,
+    alloc: Global,
+    mut heap: impl Paged + Drop,
+    budget: u32,
+) -> Result<(), Fail> {
+    for register in 0..PAGES {
+        fill(&mut heap, register, false)?;
+    }
+    heap.clear_register(ME, 0)?;
+    let mut parts = Parts::new(alloc);
+    for (most, free) in [(0, 9), (3, 11), (u32::MAX, 14)] {
+        parts.empty_at_most(most);
+        same(
+            rt,
+            collect(alloc, &mut heap, &mut parts, budget, 300)?,
+            true,
+        );
+        same(rt, heap.free_frames(), free);
+    }
+    Ok(())
+}
+
+#[test]
+fn few_pages_at_once(rt: HostRuntime) -> Result<(), Fail> {
+    for budget in [1, 100] {
+        let heap = new_heap(rt.alloc(), 16, 24)?;
+        empties_few(&rt, rt.alloc(), heap, budget)?;
     }
     Ok(())
 }

@@ -9,6 +9,8 @@ mod choices;
 #[cfg(test)]
 mod counting;
 #[cfg(test)]
+mod heaps;
+#[cfg(test)]
 mod listing;
 #[cfg(test)]
 mod long;

@@ -1,5 +1,6 @@
 //! Marks that run while objects are uncopied, and while the worker is scanning an object.
 
+use crate::heaps::new_heap;
 use crate::same::same;
 use collecting::{Collected, Holding, Parts};
 use managed::ManagedHeap;
@@ -7,7 +8,6 @@ use model::{Actor, PageList, Refusal, Step};
 use std::alloc::Global;
 use std::process::Abort;
 use std::test::Fail;
-use test_support_heaps::new_heap;
 
 const ME: u32 = 0;
 

@@ -1,12 +1,12 @@
 //! Collections in parts.
 
+use crate::heaps::new_heap;
 use crate::same::same;
 use collecting::{Holding, Parts, Policy};
 use model::Refusal;
 use std::alloc::Global;
 use std::process::Abort;
 use std::test::Fail;
-use test_support_heaps::new_heap;
 
 const ME: u32 = 0;
 

@@ -1,5 +1,6 @@
 //! When a heap is collected for a buffer.
 
+use crate::heaps::new_heap;
 use crate::same::same;
 use collecting::{Holding, Parts, Policy};
 use managed::ManagedHeap;
@@ -7,7 +8,6 @@ use model::Refusal;
 use std::alloc::Global;
 use std::process::Abort;
 use std::test::Fail;
-use test_support_heaps::new_heap;
 
 const ME: u32 = 0;
 

@@ -1,5 +1,6 @@
 //! Objects that are allocated in small heaps, which are collected for them.
 
+use crate::heaps::new_heap;
 use crate::same::same;
 use collecting::{Collected, Holding, Object, Policy};
 use managed::ManagedHeap;
@@ -7,7 +8,6 @@ use model::Refusal;
 use std::alloc::Global;
 use std::process::Abort;
 use std::test::Fail;
-use test_support_heaps::new_heap;
 
 /// The one thread, and registers for what is kept and for what isn't.
 const ME: u32 = 0;

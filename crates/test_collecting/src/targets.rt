@@ -1,5 +1,6 @@
 //! How many frames a heap uses until it is collected, and whose memory it keeps.
 
+use crate::heaps::new_heap;
 use crate::same::same;
 use collecting::{Holding, Policy, Target};
 use managed::ManagedHeap;
@@ -7,7 +8,6 @@ use model::Refusal;
 use std::alloc::Global;
 use std::process::Abort;
 use std::test::Fail;
-use test_support_heaps::new_heap;
 
 const ME: u32 = 0;
 

@@ -2,15 +2,15 @@
 //! allow that nothing is done; then the slow way does it.
 
 use crate::same::same;
-use cycle::Mutating;
+use cycle::Stepping;
 use heap::Heap;
-use model::Refusal;
+use model::{Actor, Refusal, Step};
 use std::process::Abort;
 use std::test::Fail;
 use test_support_samples::shared_by_two;
 
 /// A heap whose calls are done at once.
-trait AtOnce: Mutating {
+trait AtOnce: Stepping {
     /// Returns whether each call on the object in register 0 is done.
     fn are_done(&mut self) -> [bool; 5];
 }
@@ -28,10 +28,16 @@ impl AtOnce for Heap {
 }
 
 /// Allocates an object in register 0, to which global 0 refers too.
-fn make(heap: &mut impl Mutating) -> Result<(), Refusal> {
-    heap.take(0, 16)?;
-    heap.new_object(0, 0, 0)?;
-    heap.store_global(0, 0, 0)
+fn make(heap: &mut impl Stepping) -> Result<(), Refusal> {
+    let (target, layout, global, source) = (0, 0, 0, 0);
+    for step in [
+        Step::Take(16),
+        Step::New { target, layout },
+        Step::StoreGlobal { global, source },
+    ] {
+        heap.step(Actor::Thread(0), &step)?;
+    }
+    Ok(())
 }
 
 /// All calls on a new object are done.

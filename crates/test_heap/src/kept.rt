@@ -2,14 +2,15 @@
 
 use crate::protections::{close, new_heap};
 use crate::same::same_at;
-use cycle::{Mutating, Stepping};
+use cycle::Stepping;
 use heap::Heap;
+use model::{Actor, Step};
 use std::alloc::AllocError;
 use std::process::Abort;
 use std::test::Fail;
 
 /// A heap that keeps sizes.
-trait Keeping: Mutating + Stepping {
+trait Keeping: Stepping {
     /// Keeps the sizes of a page.
     fn keep(&mut self, page: u32) -> Result<(), AllocError>;
 
@@ -52,7 +53,13 @@ fn keeps(rt: &impl Abort, mut heap: impl Keeping + Drop) -> Result<(), Fail> {
         heap.keep(page)?;
     }
     same_at(rt, "then", heap.kept(), FIRST);
-    heap.set_datum(0, 0, 0, 7)?;
+    let (object, index, value) = (0, 0, 7);
+    let step = Step::SetDatum {
+        object,
+        index,
+        value,
+    };
+    heap.step(Actor::Thread(0), &step)?;
     same_at(rt, "after a write", heap.kept(), NONE);
     heap.keep(1)?;
     same_at(rt, "again", heap.kept(), FIRST);

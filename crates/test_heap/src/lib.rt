@@ -1,4 +1,5 @@
-//! The tests of the heap: its first state, and the calls of its threads and workers.
+//! The tests of the heap: its first state, the calls of its threads and workers, and marks in waves, whose results are
+//! those of a drain by one thread.
 #![tactic(auto)]
 
 #[cfg(test)]
@@ -17,3 +18,7 @@ mod mutating;
 mod protections;
 #[cfg(test)]
 mod same;
+#[cfg(test)]
+mod tables;
+#[cfg(test)]
+mod waving;

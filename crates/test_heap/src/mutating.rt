@@ -1,8 +1,8 @@
 //! The calls of threads that return plain values: a sequence in which each call is made.
 
 use crate::same::same;
-use cycle::{Actor, Answer, Buffer, Mutating, PageList, Step, Stepping, Trap};
-use heap::{Heap, NewFault};
+use heap::NewFault;
+use managed::{Actor, Answer, Buffer, ManagedHeap, Mutating, PageList, Reply, Step, Trap};
 use model::{Config, Refusal};
 use std::alloc::{AllocError, Global};
 use std::process::Abort;
@@ -15,6 +15,18 @@ const SECOND: u32 = 1;
 
 const WORKER: Actor = Actor::Worker(0);
 
+/// A heap with the calls of threads, and the steps of workers. The latter have no contracts.
+trait Worked: Mutating {
+    /// Does a step of an actor.
+    fn step(&mut self, actor: Actor, step: &Step) -> Reply;
+}
+
+impl Worked for ManagedHeap {
+    fn step(&mut self, actor: Actor, step: &Step) -> Reply {
+        ManagedHeap::step(self, actor, step)
+    }
+}
+
 /// Three frames of 16 words, two threads and a worker; an object has one reference and one datum.
 fn config(alloc: Global) -> Result<Config, AllocError> {
     let mut config = shared_by_two(alloc)?;
@@ -24,7 +36,7 @@ fn config(alloc: Global) -> Result<Config, AllocError> {
 }
 
 /// A step of the worker is accepted.
-fn works(rt: &impl Abort, heap: &mut impl Stepping, step: Step) {
+fn works(rt: &impl Abort, heap: &mut impl Worked, step: Step) {
     assert!(rt; heap.step(WORKER, &step).is_ok());
 }
 
@@ -82,7 +94,7 @@ fn load(rt: &impl Abort, heap: &mut impl Mutating) {
 }
 
 /// A mark runs: the first thread crosses, the second is parked and crossed for.
-fn mark<H: Mutating + Stepping>(rt: &impl Abort, heap: &mut H) {
+fn mark(rt: &impl Abort, heap: &mut impl Worked) {
     same(rt, heap.cross(FIRST), Err(Refusal::Phase));
     same(rt, heap.park(SECOND), Ok(()));
     works(rt, heap, Step::StartMark);
@@ -99,7 +111,7 @@ fn mark<H: Mutating + Stepping>(rt: &impl Abort, heap: &mut H) {
 }
 
 /// Both objects are scanned, and the mark ends.
-fn scan(rt: &impl Abort, heap: &mut impl Stepping) {
+fn scan(rt: &impl Abort, heap: &mut impl Worked) {
     for offset in [0, 3] {
         works(rt, heap, Step::Pick { page: 1, offset });
         works(rt, heap, Step::ScanField);
@@ -110,7 +122,7 @@ fn scan(rt: &impl Abort, heap: &mut impl Stepping) {
 }
 
 /// The page is protected, and both threads cross; then the object of a register of the first is moved.
-fn protect<H: Mutating + Stepping>(rt: &impl Abort, heap: &mut H, pages: PageList) {
+fn protect(rt: &impl Abort, heap: &mut impl Worked, pages: PageList) {
     works(rt, heap, Step::Protect(pages));
     same(rt, heap.cross(FIRST), Ok(()));
     same(rt, heap.scrub(FIRST, 0), Err(Refusal::Stall));
@@ -122,7 +134,7 @@ fn protect<H: Mutating + Stepping>(rt: &impl Abort, heap: &mut H, pages: PageLis
 }
 
 /// A load finds the moved object, and the global is healed.
-fn follow<H: Mutating + Stepping>(rt: &impl Abort, heap: &mut H) {
+fn follow(rt: &impl Abort, heap: &mut impl Worked) {
     same(rt, heap.load_global(SECOND, 0, 0), Ok(()));
     same(rt, heap.trap(SECOND), Ok(Trap::Moved));
     same(rt, heap.store_global(FIRST, 0, 3), Ok(()));
@@ -133,7 +145,7 @@ fn follow<H: Mutating + Stepping>(rt: &impl Abort, heap: &mut H) {
     same(rt, reply, Ok(Answer::MovedTo { page: 2, offset: 3 }));
 }
 
-fn ask(rt: &impl Abort, mut heap: impl Mutating + Stepping + Drop, pages: PageList) {
+fn ask(rt: &impl Abort, mut heap: impl Worked + Drop, pages: PageList) {
     make(rt, &mut heap);
     write(rt, &mut heap);
     compare(rt, &mut heap);
@@ -147,7 +159,7 @@ fn ask(rt: &impl Abort, mut heap: impl Mutating + Stepping + Drop, pages: PageLi
 #[test]
 fn threads_ask_by_calls(rt: HostRuntime) -> Result<(), Fail> {
     let pages = vec![in rt.alloc(); 1u32]?;
-    let heap = Heap::new(rt.alloc(), config(rt.alloc())?)?;
+    let heap = ManagedHeap::new(rt.alloc(), config(rt.alloc())?)?;
     ask(&rt, heap, PageList::new(pages));
     Ok(())
 }

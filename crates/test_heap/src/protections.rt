@@ -152,5 +152,7 @@ fn pages_of_a_long_list(rt: HostRuntime) -> Result<(), Fail> {
     let mut config = shared_by_two(rt.alloc())?;
     config.pages = 200;
     let mut heap = Heap::new(rt.alloc(), config)?;
-    finds_twice(&rt, rt.alloc(), &mut heap)
+    let found = finds_twice(&rt, rt.alloc(), &mut heap);
+    drop(heap);
+    found
 }

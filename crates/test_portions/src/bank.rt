@@ -1,6 +1,6 @@
 //! A bank: threads move money between accounts, and the sum stays.
 
-use crate::same::{is_sound, same};
+use crate::same::{is_sound_then, same};
 use model::Refusal;
 use portions::{MutatorCalls, Seats, SharedHeap, ThreadSeat};
 use std::alloc::Global;
@@ -134,8 +134,8 @@ fn the_sum_stays<R: Threads + Wait + Clock + Sync + Abort>(
     rests: u32,
 ) -> Result<(), Fail> {
     let (shared, seats) = shared_heap(alloc, threads, 64, rests)?;
-    all_move(rt, alloc, &shared, seats)?;
-    is_sound(rt, alloc, shared)
+    let moved = all_move(rt, alloc, &shared, seats);
+    is_sound_then(rt, alloc, shared, moved)
 }
 
 #[test]

@@ -1,6 +1,6 @@
 //! Lists: each thread keeps one in its registers, from portion to portion, while the heap is collected.
 
-use crate::same::{is_sound, same};
+use crate::same::{is_sound_then, same};
 use model::Refusal;
 use portions::{MutatorCalls, Seats, SharedHeap, ThreadSeat};
 use std::alloc::Global;
@@ -91,6 +91,6 @@ fn all_make<R: Threads + Wait + Clock + Sync + Abort>(
 #[test]
 fn four_lists(rt: HostRuntime) -> Result<(), Fail> {
     let (shared, seats) = shared_heap(rt.alloc(), 4, 96, 1)?;
-    all_make(&rt, rt.alloc(), &shared, seats)?;
-    is_sound(&rt, rt.alloc(), shared)
+    let made = all_make(&rt, rt.alloc(), &shared, seats);
+    is_sound_then(&rt, rt.alloc(), shared, made)
 }

@@ -29,6 +29,8 @@ fn seats_are_of_all_threads(rt: HostRuntime) -> Result<(), Fail> {
     assert!(&rt; !shared.is_closed());
     shared.close();
     assert!(&rt; shared.is_closed());
+    drop(seats);
+    drop(shared);
     Ok(())
 }
 
@@ -101,14 +103,22 @@ fn what_was_made_before_stays(rt: HostRuntime) -> Result<(), Fail> {
     same(&rt, make_before(rt.alloc(), &mut heap), Ok(()));
     let mut heap = goes_on(&rt, rt.alloc(), heap)?;
     same(&rt, read_after(&mut heap), Ok(11));
+    drop(heap);
     Ok(())
 }
 
 /// Returns why a heap can't be shared, and then ends the load.
 fn refused(alloc: Global, heap: ManagedHeap) -> Option<Refusal> {
     match SharedHeap::open(alloc, heap, 1) {
-        Ok(_) => None,
-        Err(fault) => Some(fault.refusal),
+        Ok(opened) => {
+            drop(opened);
+            None
+        }
+        Err(fault) => {
+            let refusal = fault.refusal;
+            drop(fault);
+            Some(refusal)
+        }
     }
 }
 

@@ -18,3 +18,20 @@ pub fn is_sound(rt: &impl Abort, alloc: Global, shared: SharedHeap) -> Result<()
     same(rt, verifies(alloc, shared)?, true);
     Ok(())
 }
+
+/// The work on a shared heap has succeeded, and the heap is sound. An error drops the heap by one call: field by field,
+/// at each `?`, that takes a minute of proof.
+pub fn is_sound_then(
+    rt: &impl Abort,
+    alloc: Global,
+    shared: SharedHeap,
+    done: Result<(), Fail>,
+) -> Result<(), Fail> {
+    match done {
+        Ok(()) => is_sound(rt, alloc, shared),
+        Err(fault) => {
+            drop(shared);
+            Err(fault)
+        }
+    }
+}

@@ -1,4 +1,5 @@
-//! Tests of turns on a heap that threads share: which thread has it when, and collections between the turns.
+//! Tests of turns on a heap that threads share, which thread has it when, and collections between the turns; and of
+//! views in each phase of a collection, by several threads at once.
 #![tactic(auto)]
 
 #[cfg(test)]
@@ -7,3 +8,5 @@ mod parked;
 mod same;
 #[cfg(test)]
 mod turns;
+#[cfg(test)]
+mod views;

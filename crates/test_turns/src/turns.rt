@@ -117,7 +117,9 @@ fn meet<R: Threads + Wait + Clock + Sync + Abort>(
 #[test]
 fn a_thread_that_rests_hands_on(rt: HostRuntime) -> Result<(), Fail> {
     let (shared, seats) = shared_heap(rt.alloc(), 2, FRAMES, 4)?;
-    meet(&rt, rt.alloc(), &shared, seats)
+    let met = meet(&rt, rt.alloc(), &shared, seats);
+    drop(shared);
+    met
 }
 
 /// A thread that leaves few frames free, and waits until there are more.
@@ -190,7 +192,9 @@ fn is_collected<R: Threads + Wait + Clock + Sync + Abort>(
 #[test]
 fn the_collector_frees_frames(rt: HostRuntime) -> Result<(), Fail> {
     let (shared, seats) = shared_heap(rt.alloc(), 1, FRAMES, 4)?;
-    is_collected(&rt, rt.alloc(), &shared, seats)
+    let collected = is_collected(&rt, rt.alloc(), &shared, seats);
+    drop(shared);
+    collected
 }
 
 /// A thread that rests waits if fewer frames are free: a quarter of the 24 at which the collector begins.
@@ -260,5 +264,7 @@ fn is_paced<R: Threads + Wait + Clock + Sync + Abort>(
 #[test]
 fn a_thread_that_rests_waits_for_frames(rt: HostRuntime) -> Result<(), Fail> {
     let (shared, seats) = shared_heap(rt.alloc(), 1, FRAMES, 0)?;
-    is_paced(&rt, rt.alloc(), &shared, seats)
+    let paced = is_paced(&rt, rt.alloc(), &shared, seats);
+    drop(shared);
+    paced
 }

@@ -30,8 +30,7 @@ use crate::calls::HeapCalls;
 use crate::numbers::{Datum, Field, GlobalNumber, LayoutNumber, Register, Thread};
 use crate::owning::TypedHeap;
 use collecting::{Collected, Counters, Counting, Holding, Object, Policy, PolicyFault, Target};
-use cycle::Mutating;
-use managed::{FieldLoad, LoadsFault};
+use managed::{FieldLoad, LoadsFault, Mutating};
 use model::{Buffer, Refusal};
 use std::alloc::Global;
 
@@ -436,6 +435,12 @@ impl HeapCalls for TypedHeap {
         ensures { self.new ≡ record self.old { budget = budget } }
     {
         self.budget = budget;
+    }
+
+    fn empty_at_most(&mut self, pages: u32)
+        ensures { self.new ≡ record self.old { parts = record self.old.parts { most = pages } } }
+    {
+        self.parts.empty_at_most(pages);
     }
 
     fn counters(&self) -> Counters

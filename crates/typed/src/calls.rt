@@ -188,6 +188,9 @@ pub trait HeapCalls {
     /// Sets the budget: how many objects a part of a collection may scan, at least one.
     fn set_budget(&mut self, budget: u32);
 
+    /// Has collections in parts empty at most this many pages with live objects each, as `Parts::empty_at_most`.
+    fn empty_at_most(&mut self, pages: u32);
+
     /// Returns what the collections of the heap have done.
     fn counters(&self) -> Counters;
 

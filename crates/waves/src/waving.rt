@@ -15,7 +15,7 @@ use std::alloc::{AllocError, Global};
 use std::thread::Threads;
 
 /// With fewer grey objects a wave isn't worth its threads.
-const FEW: u64 = 2_048;
+const FEW: u64 = 16_384;
 
 /// How many objects one thread scans at first, with the object that was marked last as the next one, before it is
 /// asked again whether a wave is worth it.

@@ -11,5 +11,6 @@ returns-in-Ok c = empties_next c.args.parts.now c.pass.new.self c.args.heap.now 
     c.empty_one.ensures c.pass.ensures
 
 pub returns-in-Err : goal.returns-in-Err
-returns-in-Err c = empties_stop c.args.parts.now c.args.heap.now c.empty_one.new.heap c.in-Some.page
-    c.empty_one.result c.in-Err.refusal c.in-Err.is c.empty_one.ensures
+returns-in-Err c = empties_stop c.args.parts.now c.args.heap.now c.empty_one.new.heap c.next_page.result
+    c.in-Some.page c.empty_one.result c.in-Err.refusal c.next_page.ensures c.in-Some.is c.in-Err.is
+    c.empty_one.ensures

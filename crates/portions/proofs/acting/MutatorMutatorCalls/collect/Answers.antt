@@ -6,13 +6,15 @@ use Rattle.portions.proofs.Others.{goes_on, kept_then, stands_kept, unseen_kept}
 use Rattle.portions.proofs.acting.MutatorMutatorCalls.collect.Goals as goal
 
 pub settle-requires : goal.settle-requires
-settle-requires c = collects_alone c.self.inside.thread c.self.inside.heap c.collect-result.new.self c.collect-result.ensures.goes c.self.invariant.runs
+settle-requires c = collects_alone c.self.inside.thread c.self.inside.heap c.collect-result.new.self
+    c.collect-result.ensures.goes c.self.invariant.runs
 
 pub invariant_of-self : goal.invariant_of-self
 invariant_of-self c = c.settle.ensures.apart
 
 pub returns-clause-ends : goal.returns-clause-ends
-returns-clause-ends c = subst (λ (m : MutatorState). ThenCrosses (EndsCollecting c.args.percent m.heap c.collect-result.result)
+returns-clause-ends c = subst (λ (m : MutatorState). ThenCrosses
+    (EndsCollecting c.args.percent m.heap c.collect-result.result)
     c.settle.new.heap) c.self.view_is (c.collect-result.new.self, c.collect-result.ensures.ends, c.settle.ensures.goes)
 
 pub returns-clause-on : goal.returns-clause-on

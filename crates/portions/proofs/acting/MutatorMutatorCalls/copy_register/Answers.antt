@@ -7,7 +7,8 @@ use Rattle.portions.proofs.acting.MutatorMutatorCalls.copy_register.Goals as goa
 
 pub invariant_of-self : goal.invariant_of-self
 invariant_of-self c = does_apart done c.self.inside.heap c.copy_register.new.self c.self.inside.thread
-    (steps.CopyReg c.args.target c.args.source) c.copy_register.result refl c.copy_register.ensures.does c.self.invariant
+    (steps.CopyReg c.args.target c.args.source) c.copy_register.result refl c.copy_register.ensures.does
+    c.self.invariant
 
 pub returns-clause-on : goal.returns-clause-on
 returns-clause-on c = goes_on c.self.inside.thread c.self.inside.heap c.copy_register.new.self _ c.self.view_is

@@ -14,7 +14,8 @@ pub invariant_of-self : goal.invariant_of-self
 invariant_of-self c = c.settle.ensures.apart
 
 pub returns-clause-ends : goal.returns-clause-ends
-returns-clause-ends c = subst (λ (m : MutatorState). ThenCrosses (EndsMakingWith m.thread c.args.policy.words c.args.policy.percent c.args.target c.args.layout
+returns-clause-ends c = subst (λ (m : MutatorState). ThenCrosses
+    (EndsMakingWith m.thread c.args.policy.words c.args.policy.percent c.args.target c.args.layout
     c.args.sources.now c.args.nums.now m.heap c.make_with-result.result)
     c.settle.new.heap) c.self.view_is (c.make_with-result.new.self, c.make_with-result.ensures, c.settle.ensures.goes)
 

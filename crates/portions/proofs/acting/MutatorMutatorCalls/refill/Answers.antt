@@ -6,13 +6,15 @@ use Rattle.portions.proofs.Others.{goes_on, kept_then, stands_kept, unseen_kept}
 use Rattle.portions.proofs.acting.MutatorMutatorCalls.refill.Goals as goal
 
 pub settle-requires : goal.settle-requires
-settle-requires c = refills_alone c.self.inside.thread c.self.inside.heap c.refill-result.new.self c.refill-result.ensures.goes c.self.invariant.runs
+settle-requires c = refills_alone c.self.inside.thread c.self.inside.heap c.refill-result.new.self
+    c.refill-result.ensures.goes c.self.invariant.runs
 
 pub invariant_of-self : goal.invariant_of-self
 invariant_of-self c = c.settle.ensures.apart
 
 pub returns-clause-ends : goal.returns-clause-ends
-returns-clause-ends c = subst (λ (m : MutatorState). ThenCrosses (EndsRefill m.thread c.args.policy.words c.args.policy.percent m.heap c.refill-result.result)
+returns-clause-ends c = subst (λ (m : MutatorState). ThenCrosses
+    (EndsRefill m.thread c.args.policy.words c.args.policy.percent m.heap c.refill-result.result)
     c.settle.new.heap) c.self.view_is (c.refill-result.new.self, c.refill-result.ensures.ends, c.settle.ensures.goes)
 
 pub returns-clause-on : goal.returns-clause-on

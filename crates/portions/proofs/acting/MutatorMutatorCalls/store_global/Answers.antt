@@ -7,7 +7,8 @@ use Rattle.portions.proofs.acting.MutatorMutatorCalls.store_global.Goals as goal
 
 pub invariant_of-self : goal.invariant_of-self
 invariant_of-self c = does_apart done c.self.inside.heap c.store_global.new.self c.self.inside.thread
-    (steps.StoreGlobal c.args.global c.args.source) c.store_global.result refl c.store_global.ensures.does c.self.invariant
+    (steps.StoreGlobal c.args.global c.args.source) c.store_global.result refl c.store_global.ensures.does
+    c.self.invariant
 
 pub returns-clause-on : goal.returns-clause-on
 returns-clause-on c = goes_on c.self.inside.thread c.self.inside.heap c.store_global.new.self _ c.self.view_is

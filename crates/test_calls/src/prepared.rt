@@ -1,0 +1,214 @@
+//! What the parts of a collection prepare before pages are protected: frames, and sizes of objects.
+
+use crate::heaps::new_heap;
+use crate::same::same;
+use collecting::{Holding, Parts, Policy};
+use heap::Heap;
+use managed::ManagedHeap;
+use model::Refusal;
+use std::alloc::Global;
+use std::process::Abort;
+use std::test::Fail;
+
+const ME: u32 = 0;
+
+/// Registers: the head of a list, and a new object.
+const HEAD: u32 = 0;
+
+const NEW: u32 = 1;
+
+/// Buffers of a page, for which the heap is never collected.
+const POLICY: Policy = Policy {
+    words: 16,
+    free: 0,
+    percent: 75,
+};
+
+/// A heap whose frames are counted, and the pages whose objects' sizes are kept.
+trait Framed: Holding {
+    fn used_frames(&self) -> usize;
+
+    fn sized_pages(&self) -> usize;
+}
+
+/// Returns of how many pages the sizes of the live objects are kept.
+fn sized_pages(heap: &Heap) -> usize {
+    let mut found = 0usize;
+    for index in 0..heap.memory().page_count() {
+        if heap.sizes_on(index + 1).is_some() {
+            found = found.saturating_add(1);
+        }
+    }
+    found
+}
+
+impl Framed for ManagedHeap {
+    fn used_frames(&self) -> usize {
+        self.heap().memory().used_frames()
+    }
+
+    fn sized_pages(&self) -> usize {
+        sized_pages(self.heap())
+    }
+}
+
+/// The effect of the parts of a collection on frames.
+#[derive(Clone, Copy, Debug, PartialEq, Eq)]
+struct Work {
+    /// Frames that were prepared in all, and by one part at most.
+    prepared: usize,
+    most: usize,
+    /// Frames that were opened, and how many of them had their memory allocated then.
+    opened: usize,
+    allocated: usize,
+}
+
+const NOTHING: Work = Work {
+    prepared: 0,
+    most: 0,
+    opened: 0,
+    allocated: 0,
+};
+
+/// Returns the frames that are used, and those whose memory is kept.
+fn frames_of(heap: &impl Framed) -> [usize; 2] {
+    [heap.used_frames(), heap.kept_frames()]
+}
+
+/// Returns the work after one more part, by the frames before and after it.
+fn more(work: Work, before: [usize; 2], after: [usize; 2]) -> Work {
+    let opened = after[0].saturating_sub(before[0]);
+    let found = before[1].saturating_sub(after[1]);
+    let prepared = if before[0] == after[0] {
+        after[1].saturating_sub(before[1])
+    } else {
+        0
+    };
+    Work {
+        prepared: work.prepared.saturating_add(prepared),
+        most: work.most.max(prepared),
+        opened: work.opened.saturating_add(opened),
+        allocated: work.allocated.saturating_add(opened.saturating_sub(found)),
+    }
+}
+
+/// Returns the work of a collection in parts with this budget.
+fn work_of(
+    alloc: Global,
+    heap: &mut impl Framed,
+    parts: &mut Parts,
+    budget: u32,
+) -> Result<Work, Refusal> {
+    let mut work = NOTHING;
+    for _ in 0..10_000u32 {
+        let before = frames_of(heap);
+        let ended = heap.collect_some(alloc, parts, 75, budget)?;
+        work = more(work, before, frames_of(heap));
+        if ended {
+            return Ok(work);
+        }
+    }
+    Ok(NOTHING)
+}
+
+/// Allocates 200 objects, five on each of 40 pages; every second one is kept.
+fn fill(alloc: Global, heap: &mut impl Framed) -> Result<(), Refusal> {
+    for _ in 0..100 {
+        heap.make(alloc, POLICY, ME, NEW, 0)?;
+        heap.make(alloc, POLICY, ME, NEW, 0)?;
+        heap.store(ME, NEW, 0, HEAD)?;
+        heap.copy_register(ME, HEAD, NEW)?;
+    }
+    heap.clear_register(ME, NEW)?;
+    heap.give_back(ME)
+}
+
+/// The 300 live words take 19 pages, and one more for what stays free at their ends. So 20 frames are prepared, at
+/// most `most` by one part. Of 40 pages all but two are emptied, into 19 frames, none of which is allocated then.
+fn prepares(
+    rt: &impl Abort,
+    alloc: Global,
+    mut heap: impl Framed + Drop,
+    budget: u32,
+    most: usize,
+) -> Result<(), Fail> {
+    fill(alloc, &mut heap)?;
+    let mut parts = Parts::new(alloc);
+    let wanted = Work {
+        prepared: 20,
+        most,
+        opened: 19,
+        allocated: 0,
+    };
+    same(
+        rt,
+        work_of(alloc, &mut heap, &mut parts, budget),
+        Ok(wanted),
+    );
+    Ok(())
+}
+
+#[test]
+fn frames_are_prepared_by_budget(rt: HostRuntime) -> Result<(), Fail> {
+    for (budget, most) in [(0, 1), (1, 3), (4, 9), (1000, 20)] {
+        prepares(
+            &rt,
+            rt.alloc(),
+            new_heap(rt.alloc(), 64, 128)?,
+            budget,
+            most,
+        )?;
+    }
+    Ok(())
+}
+
+/// Memory that is kept from an earlier collection isn't prepared again, nor for more frames than are free.
+fn prepares_once(
+    rt: &impl Abort,
+    alloc: Global,
+    mut heap: impl Framed + Drop,
+    wanted: usize,
+) -> Result<(), Fail> {
+    fill(alloc, &mut heap)?;
+    let mut parts = Parts::new(alloc);
+    let work = work_of(alloc, &mut heap, &mut parts, 1)?;
+    same(rt, (work.prepared, work.allocated), (wanted, 0));
+    heap.clear_register(ME, HEAD)?;
+    work_of(alloc, &mut heap, &mut parts, 1)?;
+    fill(alloc, &mut heap)?;
+    let again = work_of(alloc, &mut heap, &mut parts, 1)?;
+    same(rt, (again.prepared, again.allocated), (0, 0));
+    Ok(())
+}
+
+#[test]
+fn frames_are_prepared_once(rt: HostRuntime) -> Result<(), Fail> {
+    prepares_once(&rt, rt.alloc(), new_heap(rt.alloc(), 64, 256)?, 20)?;
+    prepares_once(&rt, rt.alloc(), new_heap(rt.alloc(), 46, 256)?, 6)
+}
+
+/// Returns of how many pages sizes are kept at most, before each part of a collection.
+fn most_sized(alloc: Global, heap: &mut impl Framed) -> Result<usize, Refusal> {
+    let mut parts = Parts::new(alloc);
+    let mut most = 0;
+    for _ in 0..10_000u32 {
+        most = most.max(heap.sized_pages());
+        if heap.collect_some(alloc, &mut parts, 75, 1)? {
+            return Ok(most);
+        }
+    }
+    Ok(0)
+}
+
+/// All 40 pages are found, and the sizes of their objects are kept until the pages are protected.
+fn keeps_sizes(rt: &impl Abort, alloc: Global, mut heap: impl Framed + Drop) -> Result<(), Fail> {
+    fill(alloc, &mut heap)?;
+    same(rt, heap.sized_pages(), 0);
+    same(rt, most_sized(alloc, &mut heap), Ok(40));
+    Ok(())
+}
+
+#[test]
+fn sizes_are_kept_of_found_pages(rt: HostRuntime) -> Result<(), Fail> {
+    keeps_sizes(&rt, rt.alloc(), new_heap(rt.alloc(), 64, 128)?)
+}
