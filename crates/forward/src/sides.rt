@@ -303,6 +303,13 @@ impl Sides {
         let _ = add_empty(&mut self.cleared, self.sides.len(), u32::MAX);
     }
 
+    /// Frees the entries of all tables that were cleared. It allocates nothing.
+    pub fn trim(&mut self)
+        ensures { self.new ≡ self.old }
+    {
+        free(&mut self.cleared, &mut self.freed, u32::MAX);
+    }
+
     /// Frees the entries of up to `most` tables that were cleared. Once `clear_all` was called, it makes space for as
     /// many more that are cleared next, if memory is there for it.
     pub fn tidy(&mut self, most: u32)

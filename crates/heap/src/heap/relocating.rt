@@ -179,7 +179,7 @@ impl Heap {
         self.live.trim(most);
         self.mark.trim(most);
         self.todo.trim(most);
-        self.sides.tidy(u32::MAX);
+        self.sides.trim();
     }
 
     /// Releases the memory of a page that is being emptied.
