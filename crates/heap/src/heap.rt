@@ -55,7 +55,6 @@ use thread_records::{Thread, Threads};
 /// tests nothing, so one of them can leave a heap that represents no reference model. They are for the crates that
 /// implement steps, which prove the results. Users of a heap request steps instead; and the heap of a program
 /// (`managed`) never lends the access that is needed to call them.
-#[derive(Drop)]
 pub struct Heap {
     config: Config,
     store: Store,
@@ -82,6 +81,28 @@ impl Model for Heap {
     ghost view = { heap_of };
 
     ghost invariant = { IsHeapInside };
+}
+
+/// Written out, so that it is proved once: for a derived one, each function at whose end a heap goes proves the drop of
+/// all that the heap has.
+impl Drop for Heap {
+    fn drop(self) {
+        let Heap {
+            config: _config,
+            store: _store,
+            starts: _starts,
+            live: _live,
+            mark: _mark,
+            todo: _todo,
+            sides: _sides,
+            threads: _threads,
+            workers: _workers,
+            globals: _globals,
+            phase: _phase,
+            nmt: _nmt,
+            births: _births,
+        } = self;
+    }
 }
 
 impl Heap {
