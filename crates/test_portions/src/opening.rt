@@ -9,6 +9,7 @@ use std::alloc::Global;
 use std::process::Abort;
 use std::sync::Wait;
 use std::test::Fail;
+use std::thread::Threads;
 use test_support_threads::team::{CELL, POLICY, heap_of, opened, shared_heap};
 
 /// The seats are those of threads 0, 1 and 2.
@@ -58,25 +59,32 @@ fn change_byte(mutator: &mut impl MutatorCalls) -> Result<u64, Refusal> {
     Ok(before)
 }
 
-/// A thread rests when no other waits, and its portion continues.
-fn changes<R: Wait>(
+/// A thread rests when no other waits, and its portion continues: it collects the heap on two threads.
+fn changes<R: Threads + Wait + Sync>(
     rt: &R,
+    alloc: Global,
     shared: &SharedHeap,
     seat: &mut ThreadSeat,
-) -> Result<(u64, u32), Refusal> {
+) -> Result<(u64, u64, u32), Refusal> {
     let mut portion = shared.enter(rt, seat);
     change(&mut *portion)?;
     portion = shared.rest(rt, portion);
     let thread = portion.thread();
+    let live = portion.collect_by(rt, alloc, 75, 2)?.live;
     let before = change_byte(&mut *portion)?;
     SharedHeap::leave(portion);
-    Ok((before, thread))
+    Ok((live, before, thread))
 }
 
 /// An object from before a heap was shared is there, and stays when the heap isn't shared any more.
-fn stays(rt: &(impl Wait + Abort), shared: &SharedHeap, seats: &mut Seats) {
+fn stays<R: Threads + Wait + Sync + Abort>(
+    rt: &R,
+    alloc: Global,
+    shared: &SharedHeap,
+    seats: &mut Seats,
+) {
     if let Some(seat) = seats.threads.last_mut() {
-        same(rt, changes(rt, shared, seat), Ok((10, 1)));
+        same(rt, changes(rt, alloc, shared, seat), Ok((1, 10, 1)));
     }
 }
 
@@ -87,13 +95,13 @@ fn read_after(heap: &mut impl Holding) -> Result<u64, Refusal> {
 }
 
 /// A heap with that object is shared, and then isn't any more.
-fn goes_on(
-    rt: &(impl Wait + Abort),
+fn goes_on<R: Threads + Wait + Sync + Abort>(
+    rt: &R,
     alloc: Global,
     heap: ManagedHeap,
 ) -> Result<ManagedHeap, Fail> {
     let (shared, mut seats) = opened(alloc, heap, 1)?;
-    stays(rt, &shared, &mut seats);
+    stays(rt, alloc, &shared, &mut seats);
     Ok(shared.into_heap())
 }
 
