@@ -1,14 +1,14 @@
-//! The mixes by the calls of `Mutating`.
+//! The mixes by the calls of `Mutate`.
 
 use crate::mixes::{LAST, LIST, Mix, OBJECTS, OTHER, WORDS, config};
 use anyhow::Result;
-use pauseless::{ManagedHeap, Mutating, Refusal, Trap};
+use pauseless::{ManagedHeap, Mutate, Refusal, Trap};
 use std::alloc::Global;
 
 const THREAD: u32 = 0;
 
-/// A heap with the calls of `Mutating`, and the number of its births.
-trait Counted: Mutating {
+/// A heap with the calls of `Mutate`, and the number of its births.
+trait Counted: Mutate {
     fn births(&self) -> u64;
 }
 
@@ -19,7 +19,7 @@ impl Counted for ManagedHeap {
 }
 
 /// Writes and reads a datum `count` times. Returns the sum of the read values.
-fn data(heap: &mut impl Mutating, count: u32) -> Result<u64, Refusal> {
+fn data(heap: &mut impl Mutate, count: u32) -> Result<u64, Refusal> {
     let mut sum = 0u64;
     for turn in 0..count {
         heap.set_datum(THREAD, LAST, 0, u64::from(turn))?;
@@ -29,7 +29,7 @@ fn data(heap: &mut impl Mutating, count: u32) -> Result<u64, Refusal> {
 }
 
 /// Puts `count` objects in front of a list, in the present buffer.
-fn link(heap: &mut impl Mutating, count: u32) -> Result<(), Refusal> {
+fn link(heap: &mut impl Mutate, count: u32) -> Result<(), Refusal> {
     for _ in 0..count {
         heap.new_object(THREAD, OTHER, 0)?;
         heap.store(THREAD, OTHER, 0, LAST)?;
@@ -39,7 +39,7 @@ fn link(heap: &mut impl Mutating, count: u32) -> Result<(), Refusal> {
 }
 
 /// Puts `count` objects in front of a list, in buffers of a page each.
-fn build(heap: &mut impl Mutating, count: u32) -> Result<(), Refusal> {
+fn build(heap: &mut impl Mutate, count: u32) -> Result<(), Refusal> {
     let mut left = count;
     for _ in 0..count.div_ceil(OBJECTS) {
         heap.take(THREAD, WORDS)?;
@@ -51,7 +51,7 @@ fn build(heap: &mut impl Mutating, count: u32) -> Result<(), Refusal> {
 }
 
 /// Does the rest of a load that has begun.
-fn end_load(heap: &mut impl Mutating) -> Result<(), Refusal> {
+fn end_load(heap: &mut impl Mutate) -> Result<(), Refusal> {
     if heap.trap(THREAD)? != Trap::Clear {
         heap.heal(THREAD)?;
     }
@@ -59,7 +59,7 @@ fn end_load(heap: &mut impl Mutating) -> Result<(), Refusal> {
 }
 
 /// Returns whether the walk is at the list's end; then it goes back to its head.
-fn has_ended(heap: &mut impl Mutating) -> Result<bool, Refusal> {
+fn has_ended(heap: &mut impl Mutate) -> Result<bool, Refusal> {
     if !heap.is_null(THREAD, LAST)? {
         return Ok(false);
     }
@@ -68,7 +68,7 @@ fn has_ended(heap: &mut impl Mutating) -> Result<bool, Refusal> {
 }
 
 /// Loads `count` references of a list. Returns how often it came to the end.
-fn walk(heap: &mut impl Mutating, count: u32) -> Result<u64, Refusal> {
+fn walk(heap: &mut impl Mutate, count: u32) -> Result<u64, Refusal> {
     let mut ends = 0u64;
     for _ in 0..count {
         heap.load(THREAD, LAST, LAST, 0)?;
@@ -79,7 +79,7 @@ fn walk(heap: &mut impl Mutating, count: u32) -> Result<u64, Refusal> {
 }
 
 /// Copies, compares, tests and clears a register `count` times. Returns how often it was the same and not null.
-fn registers(heap: &mut impl Mutating, count: u32) -> Result<u64, Refusal> {
+fn registers(heap: &mut impl Mutate, count: u32) -> Result<u64, Refusal> {
     let mut found = 0u64;
     for _ in 0..count {
         heap.copy_register(THREAD, OTHER, LAST)?;
@@ -92,7 +92,7 @@ fn registers(heap: &mut impl Mutating, count: u32) -> Result<u64, Refusal> {
 }
 
 /// Stores and loads a global `count` times. Returns how often it did.
-fn globals(heap: &mut impl Mutating, count: u32) -> Result<u64, Refusal> {
+fn globals(heap: &mut impl Mutate, count: u32) -> Result<u64, Refusal> {
     let mut loaded = 0u64;
     for _ in 0..count {
         heap.store_global(THREAD, 0, LAST)?;

@@ -3,7 +3,7 @@
 //!
 //! | Words | Effect |
 //! |---|---|
-//! | `call-MIX TURNS` | turns of a mix of steps (`mixes`) by the calls of `Mutating`, on a heap as a program holds it |
+//! | `call-MIX TURNS` | turns of a mix of steps (`mixes`) by the calls of `Mutate`, on a heap as a program holds it |
 //! | `step-MIX TURNS` | the same by `Heap::step` |
 //! | `act-MIX TURNS` | the same by `Book::act` |
 //! | `copies WORDS PAGES COPIED` | protects PAGES pages full of objects of WORDS words, and copies the first COPIED, an object a step |

@@ -2,7 +2,7 @@
 //! itself would include all promises of each call.
 
 use anyhow::Result;
-use pauseless::{Config, Holding, Layout, Layouts, ManagedHeap, Policy, Refusal};
+use pauseless::{Collect, Config, Layout, Layouts, ManagedHeap, Policy, Refusal};
 use std::alloc::Global;
 use std::thread::Threads;
 
@@ -39,7 +39,7 @@ pub const LARGE: u32 = 4_096;
 const PERCENT: u32 = 75;
 
 /// A heap that is marked and collected by one call.
-pub trait Marked: Holding {
+pub trait Marked: Collect {
     /// Does a mark, from its start to its end. Returns how many objects are live.
     fn mark_once(&mut self) -> Result<u64, Refusal>;
 
@@ -85,13 +85,13 @@ pub fn collect_by<R: Threads + Sync>(
 
 /// Allocates an object of a layout, in a register.
 #[inline(always)]
-pub fn make(alloc: Global, heap: &mut impl Holding, target: u32, layout: u32) -> Result<()> {
+pub fn make(alloc: Global, heap: &mut impl Collect, target: u32, layout: u32) -> Result<()> {
     heap.make(alloc, Policy::usual(WORDS, FRAMES), ME, target, layout)?;
     Ok(())
 }
 
 /// Makes all registers null.
-fn clear(heap: &mut impl Holding) -> Result<(), Refusal> {
+fn clear(heap: &mut impl Collect) -> Result<(), Refusal> {
     for register in 0..REGISTERS {
         heap.clear_register(ME, register)?;
     }
@@ -99,7 +99,7 @@ fn clear(heap: &mut impl Holding) -> Result<(), Refusal> {
 }
 
 /// Moves the first reachable object from its register to global 0.
-pub fn settle(heap: &mut impl Holding) -> Result<(), Refusal> {
+pub fn settle(heap: &mut impl Collect) -> Result<(), Refusal> {
     heap.store_global(ME, 0, HEAD)?;
     clear(heap)
 }

@@ -1,7 +1,7 @@
 //! Filling pages with objects, of which every second one is live.
 
 use anyhow::Result;
-use pauseless::{Config, Layout, Layouts, ManagedHeap, Mutating, Refusal};
+use pauseless::{Config, Layout, Layouts, ManagedHeap, Mutate, Refusal};
 use std::alloc::Global;
 
 /// The one thread.
@@ -14,7 +14,7 @@ const KEPT: u32 = 0;
 const NEW: u32 = 1;
 
 /// Puts a new object in front of the list, to which all its `refs` references refer.
-fn keep(heap: &mut impl Mutating, refs: u32) -> Result<(), Refusal> {
+fn keep(heap: &mut impl Mutate, refs: u32) -> Result<(), Refusal> {
     heap.new_object(ME, NEW, 0)?;
     for field in 0..refs {
         heap.store(ME, NEW, field, KEPT)?;
@@ -23,7 +23,7 @@ fn keep(heap: &mut impl Mutating, refs: u32) -> Result<(), Refusal> {
 }
 
 /// Allocates `count` live objects in the present buffer, and as many garbage ones.
-fn make(heap: &mut impl Mutating, count: u32, refs: u32) -> Result<(), Refusal> {
+fn make(heap: &mut impl Mutate, count: u32, refs: u32) -> Result<(), Refusal> {
     for _ in 0..count {
         keep(heap, refs)?;
         heap.new_object(ME, NEW, 0)?;
@@ -34,7 +34,7 @@ fn make(heap: &mut impl Mutating, count: u32, refs: u32) -> Result<(), Refusal> 
 /// Fills pages of `words` words, each with `count` live objects, and as many garbage ones. An object has `refs`
 /// references.
 pub fn fill(
-    heap: &mut impl Mutating,
+    heap: &mut impl Mutate,
     words: u32,
     pages: u32,
     count: u32,

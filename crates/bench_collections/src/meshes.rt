@@ -3,7 +3,7 @@
 
 use crate::asking::{BRANCH, HEAD, ME, NODE, PLACES, TABLE, make};
 use anyhow::Result;
-use pauseless::{Holding, Refusal};
+use pauseless::{Collect, Refusal};
 use std::alloc::Global;
 
 /// Registers: the table of tables of tables, one of these, one of those, and an object whose reference is stored.
@@ -22,7 +22,7 @@ const ALL: u32 = PLACES * PLACES;
 const TREE: u32 = 1_023;
 
 /// Makes a table of `count` new objects, with `waste` garbage objects after each.
-fn fill_part(alloc: Global, heap: &mut impl Holding, count: u32, waste: u32) -> Result<()> {
+fn fill_part(alloc: Global, heap: &mut impl Collect, count: u32, waste: u32) -> Result<()> {
     make(alloc, heap, PART, TABLE)?;
     for place in 0..count {
         make(alloc, heap, NODE, BRANCH)?;
@@ -35,7 +35,7 @@ fn fill_part(alloc: Global, heap: &mut impl Holding, count: u32, waste: u32) -> 
 }
 
 /// Makes tables of `count` new objects.
-fn fill_row(alloc: Global, heap: &mut impl Holding, count: u32, waste: u32) -> Result<()> {
+fn fill_row(alloc: Global, heap: &mut impl Collect, count: u32, waste: u32) -> Result<()> {
     make(alloc, heap, ROW, TABLE)?;
     let mut left = count;
     for part in 0..count.div_ceil(PLACES) {
@@ -47,7 +47,7 @@ fn fill_row(alloc: Global, heap: &mut impl Holding, count: u32, waste: u32) -> R
 }
 
 /// Makes tables of tables of `count` new objects.
-fn fill(alloc: Global, heap: &mut impl Holding, count: u32, waste: u32) -> Result<()> {
+fn fill(alloc: Global, heap: &mut impl Collect, count: u32, waste: u32) -> Result<()> {
     make(alloc, heap, TABLES, TABLE)?;
     let mut left = count;
     for row in 0..count.div_ceil(ALL) {
@@ -59,21 +59,21 @@ fn fill(alloc: Global, heap: &mut impl Holding, count: u32, waste: u32) -> Resul
 }
 
 /// Loads an object by its number into a register.
-fn find(heap: &mut impl Holding, target: u32, number: u32) -> Result<(), Refusal> {
+fn find(heap: &mut impl Collect, target: u32, number: u32) -> Result<(), Refusal> {
     heap.read(ME, ROW, TABLES, number / ALL)?;
     heap.read(ME, PART, ROW, number / PLACES % PLACES)?;
     heap.read(ME, target, PART, number % PLACES)
 }
 
 /// Stores a reference from an object to another, by their numbers.
-fn link(heap: &mut impl Holding, from: u32, field: u32, to: u32) -> Result<(), Refusal> {
+fn link(heap: &mut impl Collect, from: u32, field: u32, to: u32) -> Result<(), Refusal> {
     find(heap, HERE, from)?;
     find(heap, NODE, to)?;
     heap.store(ME, HERE, field, NODE)
 }
 
 /// Gives each object except the first one its place in the tree.
-fn hang_all(heap: &mut impl Holding, count: u32) -> Result<(), Refusal> {
+fn hang_all(heap: &mut impl Collect, count: u32) -> Result<(), Refusal> {
     for number in 1..count {
         let before = number.saturating_sub(1);
         link(heap, before / 2, before % 2, number)?;
@@ -82,7 +82,7 @@ fn hang_all(heap: &mut impl Holding, count: u32) -> Result<(), Refusal> {
 }
 
 /// Makes a tree of `count` objects.
-pub fn tree(alloc: Global, heap: &mut impl Holding, count: u32) -> Result<()> {
+pub fn tree(alloc: Global, heap: &mut impl Collect, count: u32) -> Result<()> {
     fill(alloc, heap, count, 0)?;
     hang_all(heap, count)?;
     Ok(find(heap, HEAD, 0)?)
@@ -106,7 +106,7 @@ fn any(state: u64, count: u32) -> u32 {
 }
 
 /// Lets each object refer to the next one of the cycle, and to any one.
-fn link_all(heap: &mut impl Holding, count: u32) -> Result<(), Refusal> {
+fn link_all(heap: &mut impl Collect, count: u32) -> Result<(), Refusal> {
     let mut state = 1u64;
     for number in 0..count {
         state = mixed(state);
@@ -117,7 +117,7 @@ fn link_all(heap: &mut impl Holding, count: u32) -> Result<(), Refusal> {
 }
 
 /// Gives each object of a forest except the roots its place in its tree.
-fn hang_trees(heap: &mut impl Holding, count: u32) -> Result<(), Refusal> {
+fn hang_trees(heap: &mut impl Collect, count: u32) -> Result<(), Refusal> {
     for number in 0..count {
         let place = number % TREE;
         if place != 0 {
@@ -134,7 +134,7 @@ fn hang_trees(heap: &mut impl Holding, count: u32) -> Result<(), Refusal> {
 }
 
 /// Makes a table of the roots of some trees of a forest, from the tree of a number on.
-fn list_roots(alloc: Global, heap: &mut impl Holding, first: u32, count: u32) -> Result<()> {
+fn list_roots(alloc: Global, heap: &mut impl Collect, first: u32, count: u32) -> Result<()> {
     make(alloc, heap, HERE, TABLE)?;
     for place in 0..count {
         find(heap, NODE, first.wrapping_add(place).wrapping_mul(TREE))?;
@@ -144,7 +144,7 @@ fn list_roots(alloc: Global, heap: &mut impl Holding, first: u32, count: u32) ->
 }
 
 /// Makes a forest of `count` objects.
-pub fn forest(alloc: Global, heap: &mut impl Holding, count: u32) -> Result<()> {
+pub fn forest(alloc: Global, heap: &mut impl Collect, count: u32) -> Result<()> {
     fill(alloc, heap, count, 0)?;
     hang_trees(heap, count)?;
     make(alloc, heap, HEAD, TABLE)?;
@@ -158,7 +158,7 @@ pub fn forest(alloc: Global, heap: &mut impl Holding, count: u32) -> Result<()> 
 }
 
 /// Makes a graph of `count` objects, with `waste` garbage objects after each.
-pub fn graph(alloc: Global, heap: &mut impl Holding, count: u32, waste: u32) -> Result<()> {
+pub fn graph(alloc: Global, heap: &mut impl Collect, count: u32, waste: u32) -> Result<()> {
     fill(alloc, heap, count, waste)?;
     link_all(heap, count)?;
     Ok(find(heap, HEAD, 0)?)

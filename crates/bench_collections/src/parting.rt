@@ -5,7 +5,7 @@ use anyhow::Result;
 use bench_support::{Lap, Laps, since};
 use heap::Heap;
 use model::Phase;
-use pauseless::{Holding, Layout, ManagedHeap as HeldHeap, Parts};
+use pauseless::{Collect, Layout, ManagedHeap as HeldHeap, Parts};
 use std::alloc::Global;
 use std::time::{Clock, Instant};
 
@@ -16,7 +16,7 @@ const PERCENT: u32 = 75;
 const COLLECTIONS: u32 = 3;
 
 /// A managed heap whose state is read.
-trait Seen: Holding {
+trait Seen: Collect {
     /// Returns the current heap.
     fn inside(&self) -> &Heap;
 }

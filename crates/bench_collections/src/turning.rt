@@ -4,7 +4,7 @@ use crate::asking::{LARGE, Marked, collect_by, framed_heap, mark_by, new_heap, s
 use crate::{lists, meshes};
 use anyhow::Result;
 use bench_support::{Lap, Laps, since};
-use pauseless::{Holding, ManagedHeap, Refusal};
+use pauseless::{Collect, ManagedHeap, Refusal};
 use std::alloc::Global;
 use std::thread::Threads;
 use std::time::{Clock, Instant};
@@ -43,7 +43,7 @@ pub struct Task {
 }
 
 /// Makes the shape.
-fn build(alloc: Global, heap: &mut impl Holding, task: Task) -> Result<()> {
+fn build(alloc: Global, heap: &mut impl Collect, task: Task) -> Result<()> {
     match task.shape {
         Shape::List => lists::list(alloc, heap, task.count),
         Shape::Half => lists::half(alloc, heap, task.count),
@@ -88,7 +88,7 @@ pub fn run(alloc: Global, task: Task, heaps: u32) -> Result<u64> {
 }
 
 /// Makes a list of `count` objects in a heap.
-fn kept(alloc: Global, mut heap: impl Holding + Drop, count: u32) -> Result<u64> {
+fn kept(alloc: Global, mut heap: impl Collect + Drop, count: u32) -> Result<u64> {
     lists::list(alloc, &mut heap, count)?;
     Ok(u64::from(count))
 }
@@ -99,7 +99,7 @@ pub fn keep(alloc: Global, words: u32, count: u32) -> Result<u64> {
 }
 
 /// Allocates `count` garbage objects in a heap.
-fn lost(alloc: Global, mut heap: impl Holding + Drop, count: u32) -> Result<u64> {
+fn lost(alloc: Global, mut heap: impl Collect + Drop, count: u32) -> Result<u64> {
     lists::waste(alloc, &mut heap, count)?;
     Ok(u64::from(count))
 }

@@ -1,8 +1,8 @@
 //! A heap that only one thread uses.
 
 use bench_support_threads::{CELL, Cells, POLICY};
-use collecting::Holding;
-use managed::{ManagedHeap, Mutating};
+use collecting::Collect;
+use managed::{ManagedHeap, Mutate};
 use model::Refusal;
 use std::alloc::Global;
 

@@ -19,14 +19,14 @@ ghost use Rattle.collecting.specs.Rooms.{EndsMaking, EndsRefill, IsNotHeld, Maki
 ghost use Rattle.collecting.specs.Targets.{followed, in_use};
 
 use crate::cycles::collect_whole;
+use crate::executor::Alone;
 use crate::low::in_use;
-use crate::marking::Alone;
 use crate::parts::Parts;
 use crate::policy::Policy;
 use crate::seeing::Object;
 use crate::target::Target;
 use crate::{filling, pacing, parts, rooms, seeing};
-use managed::{FieldLoad, LoadsFault, ManagedHeap, Mutating};
+use managed::{FieldLoad, LoadsFault, ManagedHeap, Mutate};
 use model::{Buffer, Refusal};
 use std::alloc::Global;
 
@@ -43,15 +43,15 @@ pub struct Collected {
     pub copied: u64,
 }
 
-/// The calls of a program on its heap, besides the steps of `Mutating`: complete loads, objects with the space that
+/// The calls of a program on its heap, besides the steps of `Mutate`: complete loads, objects with the space that
 /// they need, and collections, which worker 0 does.
 ///
 /// `thread`, registers (`target`, `object`), `field`, `global` and `layout` are numbers from 0. The contracts are those
 /// of `ManagedHeap`; what is generic over this trait depends on none of them, and is proved in short time.
-pub trait Holding: Mutating {
+pub trait Collect: Mutate {
     /// Loads a reference field of an object into a register, completely, through the read barrier.
     ///
-    /// Fails as `Mutating::load` does, and nothing is done then.
+    /// Fails as `Mutate::load` does, and nothing is done then.
     fn read(&mut self, thread: u32, target: u32, object: u32, field: u32) -> Result<(), Refusal>;
 
     /// Loads several reference fields of the object in a register, each as `read` does, in their order. A load whose
@@ -60,9 +60,9 @@ pub trait Holding: Mutating {
     fn loads(&mut self, thread: u32, object: u32, fields: &[FieldLoad]) -> Result<(), LoadsFault>;
 
     /// Reads data words of the object that a register names, from word `first` on, until `values` is full: as a call
-    /// of `Mutating::datum` for each, but the object is looked up once.
+    /// of `Mutate::datum` for each, but the object is looked up once.
     ///
-    /// Fails as `Mutating::datum` does for one of them, with `BadIndex` if the object has fewer; `values` is
+    /// Fails as `Mutate::datum` does for one of them, with `BadIndex` if the object has fewer; `values` is
     /// unspecified then.
     fn get_many(
         &self,
@@ -73,9 +73,9 @@ pub trait Holding: Mutating {
     ) -> Result<(), Refusal>;
 
     /// Writes data words of the object that a register names, from word `first` on: as a call of
-    /// `Mutating::set_datum` for each of `values`, in order, but the object is looked up once.
+    /// `Mutate::set_datum` for each of `values`, in order, but the object is looked up once.
     ///
-    /// Fails as `Mutating::set_datum` does for one of them, with `BadIndex` if the object has fewer; nothing is
+    /// Fails as `Mutate::set_datum` does for one of them, with `BadIndex` if the object has fewer; nothing is
     /// written then.
     fn set_many(
         &mut self,
@@ -100,7 +100,7 @@ pub trait Holding: Mutating {
 
     /// Reads bytes of the data of the object that a register names, from byte `offset` on, until `bytes` is full.
     /// Byte i is byte i % 8 of data word i / 8, the lowest byte of each word first, as x86-64 has them in memory.
-    /// Fails as `Mutating::datum` does for one of their words, with `BadIndex` if the object has fewer; `bytes` is
+    /// Fails as `Mutate::datum` does for one of their words, with `BadIndex` if the object has fewer; `bytes` is
     /// unspecified then.
     fn read_bytes(
         &self,
@@ -111,7 +111,7 @@ pub trait Holding: Mutating {
     ) -> Result<(), Refusal>;
 
     /// Writes bytes of the data of the object that a register names, from byte `offset` on, numbered as in
-    /// `read_bytes`: as a call of `Mutating::set_datum` for each word that has one of them. The other bytes of these
+    /// `read_bytes`: as a call of `Mutate::set_datum` for each word that has one of them. The other bytes of these
     /// words stay. Fails as `read_bytes` does, and nothing is written then.
     fn write_bytes(
         &mut self,
@@ -121,7 +121,7 @@ pub trait Holding: Mutating {
         bytes: &[u8],
     ) -> Result<(), Refusal>;
 
-    /// Loads a global into a register, completely, through the read barrier. Fails as `Mutating::load_global` does,
+    /// Loads a global into a register, completely, through the read barrier. Fails as `Mutate::load_global` does,
     /// and nothing is done then.
     fn read_global(&mut self, thread: u32, target: u32, global: u32) -> Result<(), Refusal>;
 
@@ -249,7 +249,7 @@ pub trait Holding: Mutating {
     fn follow(&mut self, target: &mut Target);
 }
 
-impl Holding for ManagedHeap {
+impl Collect for ManagedHeap {
     #[inline(always)]
     fn read(&mut self, thread: u32, target: u32, object: u32, field: u32) -> Result<(), Refusal>
         ensures loads { LoadsWhole self.old thread (steps.Load target object field) result self.new }

@@ -16,21 +16,21 @@ ghost use Rattle.collecting.specs.Stages.{PartGoesOn};
 ghost use Rattle.collecting.specs.Targets.{in_use};
 ghost use Rattle.collecting.specs.declared.counting.Cause.TheVariants as causes;
 
-use crate::collecting::{Collected, Holding};
+use crate::collecting::{Collect, Collected};
 use crate::counting::{Cause, Counters, collect_counted, part_counted};
-use crate::marking::Alone;
+use crate::executor::Alone;
 use crate::pacing::{lacks_buffer, pace_and_make_counted};
 use crate::parts::Parts;
 use crate::policy::Policy;
 use crate::rooms::{make_counted, refill_counted};
-use managed::{ManagedHeap, Mutating};
+use managed::{ManagedHeap, Mutate};
 use model::{Buffer, Refusal};
 use std::alloc::Global;
 
-/// The calls of `Holding` that may collect a heap, each of which counts in `Counters` what it has done. Each has the
-/// effect of the call of `Holding` that it is named after on the heap, with the same results and errors.
-pub trait Counting: Holding {
-    /// As `Holding::collect`; counted as requested by a call.
+/// The calls of `Collect` that may collect a heap, each of which counts in `Counters` what it has done. Each has the
+/// effect of the call of `Collect` that it is named after on the heap, with the same results and errors.
+pub trait CollectCounted: Collect {
+    /// As `Collect::collect`; counted as requested by a call.
     fn collect_counted(
         &mut self,
         alloc: Global,
@@ -38,7 +38,7 @@ pub trait Counting: Holding {
         percent: u32,
     ) -> Result<Collected, Refusal>;
 
-    /// As `Holding::collect_some`. A part that fails isn't counted.
+    /// As `Collect::collect_some`. A part that fails isn't counted.
     fn collect_some_counted(
         &mut self,
         alloc: Global,
@@ -48,7 +48,7 @@ pub trait Counting: Holding {
         budget: u32,
     ) -> Result<bool, Refusal>;
 
-    /// As `Holding::refill`. A collection that it begins is counted, by whether frames were low or there was no
+    /// As `Collect::refill`. A collection that it begins is counted, by whether frames were low or there was no
     /// space.
     fn refill_counted(
         &mut self,
@@ -58,7 +58,7 @@ pub trait Counting: Holding {
         thread: u32,
     ) -> Result<Buffer, Refusal>;
 
-    /// As `Holding::make`. A collection is counted as by `refill_counted`; without one the counters stay as they are
+    /// As `Collect::make`. A collection is counted as by `refill_counted`; without one the counters stay as they are
     /// if the thread's buffer has space.
     fn make_counted(
         &mut self,
@@ -70,7 +70,7 @@ pub trait Counting: Holding {
         layout: u32,
     ) -> Result<u64, Refusal>;
 
-    /// As `Holding::make_with`; counts as `make_counted`.
+    /// As `Collect::make_with`; counts as `make_counted`.
     fn make_with_counted(
         &mut self,
         alloc: Global,
@@ -83,7 +83,7 @@ pub trait Counting: Holding {
         nums: &[u64],
     ) -> Result<u64, Refusal>;
 
-    /// As `Holding::make_paced`. The parts are counted, and a complete collection as by `make_counted`.
+    /// As `Collect::make_paced`. The parts are counted, and a complete collection as by `make_counted`.
     fn make_paced_counted(
         &mut self,
         alloc: Global,
@@ -96,7 +96,7 @@ pub trait Counting: Holding {
         layout: u32,
     ) -> Result<u64, Refusal>;
 
-    /// As `Holding::make_with_paced`; counts as `make_paced_counted`.
+    /// As `Collect::make_with_paced`; counts as `make_paced_counted`.
     fn make_with_paced_counted(
         &mut self,
         alloc: Global,
@@ -200,7 +200,7 @@ fn make_and_fill_counted(
     }
 }
 
-impl Counting for ManagedHeap {
+impl CollectCounted for ManagedHeap {
     fn collect_counted(
         &mut self,
         alloc: Global,

@@ -12,8 +12,8 @@ ghost use Rattle.collecting.specs.Targets.{in_use};
 
 use crate::collecting::Collected;
 use crate::cycles::collect_whole;
+use crate::executor::Executor;
 use crate::low::in_use;
-use crate::marking::Marking;
 use crate::parts::{Parts, collect_some};
 use heap::Heap;
 use managed::ManagedHeap;
@@ -32,7 +32,7 @@ pub enum Cause {
 }
 
 /// Counters of a heap's collections, since they were made. A program keeps them alongside its heap; the calls of
-/// `Counting` count. Each number stops at the greatest of 64 bits.
+/// `CollectCounted` count. Each number stops at the greatest of 64 bits.
 #[derive(Clone, Copy, Debug, PartialEq, Eq)]
 pub struct Counters {
     /// Complete collections that have begun because a call requested them.
@@ -58,7 +58,7 @@ pub struct Counters {
     /// Words that collections have copied: those of the live objects of the pages that complete collections have
     /// emptied, and collections in parts have protected.
     pub copied: u64,
-    /// The most frames that were used after a call of `Counting`.
+    /// The most frames that were used after a call of `CollectCounted`.
     pub most_frames: u32,
 }
 
@@ -157,7 +157,7 @@ impl Counters {
 }
 
 /// Does a complete collection, and counts it.
-pub(crate) fn collect_counted<M: Marking>(
+pub(crate) fn collect_counted<M: Executor>(
     heap: &mut ManagedHeap,
     alloc: Global,
     counters: &mut Counters,

@@ -6,15 +6,15 @@ ghost use Rattle.collecting.specs.Collections.{ChoosesAndEmpties, Collects, Ends
 ghost use Rattle.collecting.specs.Collections.{EndsDueMark, MarksAndEmpties, SettlesAndMarks};
 
 use crate::collecting::Collected;
+use crate::executor::Executor;
 use crate::leftovers::settle;
-use crate::marking::Marking;
 use choosing::Choice;
 use managed::ManagedHeap;
 use model::Refusal;
 use std::alloc::Global;
 
 /// Runs the mark that is due: the rest of the one that runs, else a complete one.
-fn mark_due<M: Marking>(heap: &mut ManagedHeap, by: &M) -> Result<u64, Refusal>
+fn mark_due<M: Executor>(heap: &mut ManagedHeap, by: &M) -> Result<u64, Refusal>
     requires { M.may_mark by.now }
     ensures goes { Collects heap.old heap.new }
     ensures ends { EndsDueMark heap.old result heap.new }
@@ -28,7 +28,7 @@ fn mark_due<M: Marking>(heap: &mut ManagedHeap, by: &M) -> Result<u64, Refusal>
 
 /// Finishes whatever an earlier collection has left, and then runs the mark that is due. Returns how many objects
 /// live.
-pub(crate) fn mark_whole<M: Marking>(heap: &mut ManagedHeap, by: &M) -> Result<u64, Refusal>
+pub(crate) fn mark_whole<M: Executor>(heap: &mut ManagedHeap, by: &M) -> Result<u64, Refusal>
     requires { M.may_mark by.now }
     ensures { SettlesAndMarks heap.old result heap.new }
 {
@@ -72,7 +72,7 @@ fn empty_choice(heap: &mut ManagedHeap, live: u64, choice: Choice) -> Result<Col
 }
 
 /// Chooses pages and empties them, after a mark that found `live` objects.
-fn empty_after<M: Marking>(
+fn empty_after<M: Executor>(
     heap: &mut ManagedHeap,
     alloc: Global,
     percent: u32,
@@ -90,7 +90,7 @@ fn empty_after<M: Marking>(
 }
 
 /// Runs a mark, and then chooses pages and empties them.
-fn run_cycle<M: Marking>(
+fn run_cycle<M: Executor>(
     heap: &mut ManagedHeap,
     alloc: Global,
     percent: u32,
@@ -107,7 +107,7 @@ fn run_cycle<M: Marking>(
 }
 
 /// Does what is left of an emptying, and then a cycle.
-pub(crate) fn collect_whole<M: Marking>(
+pub(crate) fn collect_whole<M: Executor>(
     heap: &mut ManagedHeap,
     alloc: Global,
     percent: u32,

@@ -4,7 +4,7 @@ ghost use Rattle.std.specs.Prelude.{◌≡◌, length};
 ghost use Rattle.managed.specs.Batches.{EndsFilling, LayoutHas, fill_steps};
 ghost use Rattle.collecting.specs.Filling.{EndsMakingWith, MakesAndFills};
 
-use crate::collecting::Holding;
+use crate::collecting::Collect;
 use crate::policy::Policy;
 use managed::ManagedHeap;
 use model::Refusal;

@@ -7,14 +7,14 @@ ghost use Rattle.collecting.specs.Filling.{EndsMakingWith, MakesAndFills};
 ghost use Rattle.collecting.specs.Pacing.{MakesPaced, Paces, PacesAndMakes, frames_ahead, is_due, lacks_buffer};
 ghost use Rattle.collecting.specs.Pacing.{is_urgent, left_by, left_frames, most_parts, share, share_of, stops};
 
-use crate::collecting::Holding;
+use crate::collecting::Collect;
 use crate::counting::{Counters, part_counted};
 use crate::low::are_low;
 use crate::parts::Parts;
 use crate::policy::Policy;
 use crate::rooms::make_counted;
 use heap::Heap;
-use managed::{ManagedHeap, Mutating};
+use managed::{ManagedHeap, Mutate};
 use model::Refusal;
 use std::alloc::Global;
 

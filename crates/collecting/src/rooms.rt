@@ -9,10 +9,10 @@ ghost use Rattle.collecting.specs.Rooms.{EndsMaking, HasMarkedSince, IsAny, Refi
 
 use crate::counting::{Cause, Counters, collect_counted};
 use crate::cycles::mark_whole;
+use crate::executor::Alone;
 use crate::low::are_low;
-use crate::marking::Alone;
 use crate::policy::Policy;
-use managed::{ManagedHeap, Mutating};
+use managed::{ManagedHeap, Mutate};
 use model::{Buffer, Refusal};
 use std::alloc::Global;
 

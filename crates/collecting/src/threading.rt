@@ -11,13 +11,13 @@ ghost use Rattle.collecting.specs.declared.counting.Cause.TheVariants as causes;
 use crate::collecting::Collected;
 use crate::counting::{Cause, Counters, collect_counted};
 use crate::cycles::collect_whole;
-use crate::marking::OnThreads;
+use crate::executor::OnThreads;
 use managed::ManagedHeap;
 use model::Refusal;
 use std::alloc::Global;
 use std::thread::Threads;
 
-/// Does a complete collection as `Holding::collect` does, with the same `percent`, result and errors. Its mark may scan
+/// Does a complete collection as `Collect::collect` does, with the same `percent`, result and errors. Its mark may scan
 /// on `threads` threads, which also measure the pages; with fewer than two, or while few objects are grey, this thread
 /// scans alone.
 pub fn collect_by<R: Threads + Sync>(
@@ -36,7 +36,7 @@ pub fn collect_by<R: Threads + Sync>(
     collect_whole(heap, alloc, percent, &OnThreads { rt, threads })
 }
 
-/// Does a complete collection as `collect_by`, which is counted as requested by a call, as `Counting::collect_counted`
+/// Does a complete collection as `collect_by`, which is counted as requested by a call, as `CollectCounted::collect_counted`
 /// does.
 pub fn collect_counted_by<R: Threads + Sync>(
     rt: &R,

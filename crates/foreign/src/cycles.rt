@@ -8,7 +8,7 @@ use crate::codes::{DONE, NO_HEAP, policy_code, refusal_code};
 use crate::handle::Handle;
 use crate::held::Held;
 use crate::policies::percent_fault;
-use collecting::{Collected, Counting};
+use collecting::{CollectCounted, Collected};
 use model::Refusal;
 use std::alloc::Global;
 
@@ -64,7 +64,7 @@ fn collect_tested(alloc: Global, held: &mut Held, percent: u32, done: &mut Colle
     }
 }
 
-/// Does a complete collection. Fails as `Holding::collect` does, and for a percentage above 100.
+/// Does a complete collection. Fails as `Collect::collect` does, and for a percentage above 100.
 #[tactic(auto, using(crate::proofs::Calling::on_held_or))]
 #[unsafe(no_mangle)]
 pub extern "C" fn pauseless_collect(
@@ -131,7 +131,7 @@ fn part_tested(
     }
 }
 
-/// Does the next part of a collection, which scans at most `budget` objects. Fails as `Holding::collect_some` does,
+/// Does the next part of a collection, which scans at most `budget` objects. Fails as `Collect::collect_some` does,
 /// and for a percentage above 100.
 #[tactic(auto, using(crate::proofs::Calling::on_held_or))]
 #[unsafe(no_mangle)]

@@ -12,8 +12,8 @@ use crate::codes::{DONE, NO_HEAP};
 use crate::handle::Handle;
 use crate::refusals::{get_code, set_code};
 use crate::which::copy_data_code;
-use collecting::Holding;
-use managed::Mutating;
+use collecting::Collect;
+use managed::Mutate;
 
 /// Reads a data word by its tests, if it isn't read at once.
 #[tactic(auto, using(crate::proofs::Calling::looked))]
@@ -35,7 +35,7 @@ fn get_by_tests(heap: &mut Handle, thread: u32, object: u32, index: u32, value: 
     }
 }
 
-/// Reads a data word of an object. Fails as `Mutating::datum` does.
+/// Reads a data word of an object. Fails as `Mutate::datum` does.
 #[unsafe(no_mangle)]
 pub extern "C" fn pauseless_get(
     heap: &mut Handle,
@@ -74,7 +74,7 @@ fn set_by_tests(heap: &mut Handle, thread: u32, object: u32, index: u32, value: 
     }
 }
 
-/// Writes a data word of an object. Fails as `Mutating::set_datum` does.
+/// Writes a data word of an object. Fails as `Mutate::set_datum` does.
 #[unsafe(no_mangle)]
 pub extern "C" fn pauseless_set(
     heap: &mut Handle,
@@ -95,7 +95,7 @@ pub extern "C" fn pauseless_set(
     set_by_tests(heap, thread, object, index, value)
 }
 
-/// Reads data words of an object, from word `first` on, until `values` is full. Fails as `Holding::get_many` does,
+/// Reads data words of an object, from word `first` on, until `values` is full. Fails as `Collect::get_many` does,
 /// and then `values` is unspecified.
 #[tactic(auto, using(crate::proofs::Calling::called))]
 #[unsafe(no_mangle)]
@@ -119,7 +119,7 @@ pub extern "C" fn pauseless_get_many(
     }
 }
 
-/// Writes data words of an object, from word `first` on. Fails as `Holding::set_many` does.
+/// Writes data words of an object, from word `first` on. Fails as `Collect::set_many` does.
 #[tactic(auto, using(crate::proofs::Calling::called))]
 #[unsafe(no_mangle)]
 pub extern "C" fn pauseless_set_many(
@@ -141,7 +141,7 @@ pub extern "C" fn pauseless_set_many(
     }
 }
 
-/// Copies data words of one object to another, or within one. Fails as `Holding::copy_data` does.
+/// Copies data words of one object to another, or within one. Fails as `Collect::copy_data` does.
 #[tactic(auto, using(crate::proofs::Calling::called))]
 #[unsafe(no_mangle)]
 pub extern "C" fn pauseless_copy_data(
@@ -168,7 +168,7 @@ pub extern "C" fn pauseless_copy_data(
     }
 }
 
-/// Reads bytes of an object's data, from byte `offset` on, until `bytes` is full. Fails as `Holding::read_bytes`
+/// Reads bytes of an object's data, from byte `offset` on, until `bytes` is full. Fails as `Collect::read_bytes`
 /// does, and then `bytes` is unspecified.
 #[tactic(auto, using(crate::proofs::Calling::called))]
 #[unsafe(no_mangle)]
@@ -192,7 +192,7 @@ pub extern "C" fn pauseless_read_bytes(
     }
 }
 
-/// Writes bytes of an object's data, from byte `offset` on. Fails as `Holding::write_bytes` does.
+/// Writes bytes of an object's data, from byte `offset` on. Fails as `Collect::write_bytes` does.
 #[tactic(auto, using(crate::proofs::Calling::called))]
 #[unsafe(no_mangle)]
 pub extern "C" fn pauseless_write_bytes(

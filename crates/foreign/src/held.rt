@@ -3,7 +3,7 @@
 ghost use Rattle.std.specs.Prelude.{◌≡◌, ◌-◌};
 ghost use Rattle.collecting.specs.Targets.{larger};
 
-use collecting::{Counters, Holding, Parts, Target};
+use collecting::{Collect, Counters, Parts, Target};
 use managed::ManagedHeap;
 
 /// A heap, how far a collection in parts has come, how many frames the heap may use until it is collected, and its

@@ -5,7 +5,7 @@ ghost use Rattle.foreign.specs.Looking.{IsDone, Keeps, KeepsUntold};
 
 use crate::codes::{DONE, NO_HEAP};
 use crate::handle::Handle;
-use collecting::{Holding, Target};
+use collecting::{Collect, Target};
 
 /// Writes how many frames' memory is kept for the next pages, of frames that became free.
 #[unsafe(no_mangle)]

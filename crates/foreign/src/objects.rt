@@ -16,8 +16,8 @@ use crate::held::Held;
 use crate::policies::{make_tested, make_with_tested, refill_tested};
 use crate::refusals::{give_back_code, new_object_code, take_code};
 use crate::which::look_code;
-use collecting::{Counting, Holding, Object, Policy};
-use managed::Mutating;
+use collecting::{Collect, CollectCounted, Object, Policy};
+use managed::Mutate;
 use model::{Buffer, Refusal};
 use std::alloc::Global;
 
@@ -72,7 +72,7 @@ fn policy_of(held: &mut Held, policy: &PolicyOfC) -> Policy
     }
 }
 
-/// Takes a buffer of `words` for a thread. Fails as `Mutating::take` does.
+/// Takes a buffer of `words` for a thread. Fails as `Mutate::take` does.
 #[tactic(auto, using(crate::proofs::Calling::stepped))]
 #[unsafe(no_mangle)]
 pub extern "C" fn pauseless_take(heap: &mut Handle, thread: u32, words: u32) -> u32
@@ -87,7 +87,7 @@ pub extern "C" fn pauseless_take(heap: &mut Handle, thread: u32, words: u32) -> 
     }
 }
 
-/// Gives back a thread's buffer. Fails as `Mutating::give_back` does.
+/// Gives back a thread's buffer. Fails as `Mutate::give_back` does.
 #[tactic(auto, using(crate::proofs::Calling::stepped))]
 #[unsafe(no_mangle)]
 pub extern "C" fn pauseless_give_back(heap: &mut Handle, thread: u32) -> u32
@@ -102,7 +102,7 @@ pub extern "C" fn pauseless_give_back(heap: &mut Handle, thread: u32) -> u32
     }
 }
 
-/// Allocates an object in the thread's buffer. Fails as `Mutating::new_object` does.
+/// Allocates an object in the thread's buffer. Fails as `Mutate::new_object` does.
 #[tactic(auto, using(crate::proofs::Calling::stepped))]
 #[unsafe(no_mangle)]
 pub extern "C" fn pauseless_new_object(
@@ -193,7 +193,7 @@ pub(crate) fn make_with_by(
 }
 
 /// Allocates an object; if the thread's buffer has no space for it, `pauseless_refill` gets it one before. Fails as
-/// `Holding::make` does.
+/// `Collect::make` does.
 #[tactic(auto, using(crate::proofs::Calling::on_held))]
 #[unsafe(no_mangle)]
 pub extern "C" fn pauseless_make(
@@ -213,7 +213,7 @@ pub extern "C" fn pauseless_make(
 }
 
 /// Allocates an object, for which `pauseless_refill` gets a buffer if the thread's has no space, and fills it: stores
-/// registers in its first references, and writes its first data words. Fails as `Holding::make_with` does.
+/// registers in its first references, and writes its first data words. Fails as `Collect::make_with` does.
 #[tactic(auto, using(crate::proofs::Calling::on_held))]
 #[unsafe(no_mangle)]
 pub extern "C" fn pauseless_make_with(
@@ -235,7 +235,7 @@ pub extern "C" fn pauseless_make_with(
     make_with_tested(alloc, held, policy, thread, target, layout, sources, nums)
 }
 
-/// Gets a thread a fresh buffer, for which the heap is collected by the policy. Fails as `Holding::refill` does.
+/// Gets a thread a fresh buffer, for which the heap is collected by the policy. Fails as `Collect::refill` does.
 #[tactic(auto, using(crate::proofs::Calling::on_held))]
 #[unsafe(no_mangle)]
 pub extern "C" fn pauseless_refill(
@@ -283,7 +283,7 @@ fn look_refused(heap: &mut Handle, thread: u32, register: u32, object: &mut Obje
     }
 }
 
-/// Writes the object that a register refers to. Fails as `Holding::object` does.
+/// Writes the object that a register refers to. Fails as `Collect::object` does.
 #[tactic(auto, using(crate::proofs::Calling::given))]
 #[unsafe(no_mangle)]
 pub extern "C" fn pauseless_look(

@@ -14,7 +14,7 @@ use crate::refusals::{
     store_global_code,
 };
 use crate::which::loads_code;
-use managed::{FieldLoad, LoadsFault, ManagedHeap, Mutating};
+use managed::{FieldLoad, LoadsFault, ManagedHeap, Mutate};
 use std::alloc::Global;
 
 /// Returns the code of several loads of an object, and writes for C how many are done.
@@ -57,7 +57,7 @@ fn load_by_steps(heap: &mut Handle, thread: u32, target: u32, object: u32, field
     }
 }
 
-/// Loads a reference field of an object into a register, completely. Fails as `Holding::read` does.
+/// Loads a reference field of an object into a register, completely. Fails as `Collect::read` does.
 #[unsafe(no_mangle)]
 pub extern "C" fn pauseless_load(
     heap: &mut Handle,
@@ -78,7 +78,7 @@ pub extern "C" fn pauseless_load(
 }
 
 /// Loads several reference fields of an object into registers, each completely, in their order, and writes for C how
-/// many are done. Stops at the first load that fails, and fails as `Holding::read` does.
+/// many are done. Stops at the first load that fails, and fails as `Collect::read` does.
 #[tactic(auto, using(crate::proofs::Calling::loaded_each))]
 #[unsafe(no_mangle)]
 pub extern "C" fn pauseless_loads(
@@ -115,7 +115,7 @@ fn store_by_tests(heap: &mut Handle, thread: u32, object: u32, field: u32, sourc
     }
 }
 
-/// Stores a register's reference in a field of an object. Fails as `Mutating::store` does.
+/// Stores a register's reference in a field of an object. Fails as `Mutate::store` does.
 #[unsafe(no_mangle)]
 pub extern "C" fn pauseless_store(
     heap: &mut Handle,
@@ -136,7 +136,7 @@ pub extern "C" fn pauseless_store(
     store_by_tests(heap, thread, object, field, source)
 }
 
-/// Loads a global into a register, completely. Fails as `Holding::read_global` does.
+/// Loads a global into a register, completely. Fails as `Collect::read_global` does.
 #[tactic(auto, using(crate::proofs::Calling::loaded))]
 #[unsafe(no_mangle)]
 pub extern "C" fn pauseless_load_global(
@@ -156,7 +156,7 @@ pub extern "C" fn pauseless_load_global(
     }
 }
 
-/// Stores a register's reference in a global. Fails as `Mutating::store_global` does.
+/// Stores a register's reference in a global. Fails as `Mutate::store_global` does.
 #[tactic(auto, using(crate::proofs::Calling::stepped))]
 #[unsafe(no_mangle)]
 pub extern "C" fn pauseless_store_global(
@@ -193,7 +193,7 @@ fn copy_refused(heap: &mut Handle, thread: u32, target: u32, source: u32) -> u32
     }
 }
 
-/// Copies a register's reference to another register. Fails as `Mutating::copy_register` does.
+/// Copies a register's reference to another register. Fails as `Mutate::copy_register` does.
 #[tactic(auto, using(crate::proofs::Calling::stepped))]
 #[unsafe(no_mangle)]
 pub extern "C" fn pauseless_copy(heap: &mut Handle, thread: u32, target: u32, source: u32) -> u32
@@ -224,7 +224,7 @@ fn clear_refused(heap: &mut Handle, thread: u32, target: u32) -> u32
     }
 }
 
-/// Makes a register null. Fails as `Mutating::clear_register` does.
+/// Makes a register null. Fails as `Mutate::clear_register` does.
 #[tactic(auto, using(crate::proofs::Calling::stepped))]
 #[unsafe(no_mangle)]
 pub extern "C" fn pauseless_clear(heap: &mut Handle, thread: u32, target: u32) -> u32
@@ -259,7 +259,7 @@ fn same_refused(heap: &mut Handle, thread: u32, left: u32, right: u32, is_so: &m
     }
 }
 
-/// Writes whether two registers refer to the same object, or are both null. Fails as `Mutating::same` does.
+/// Writes whether two registers refer to the same object, or are both null. Fails as `Mutate::same` does.
 #[tactic(auto, using(crate::proofs::Calling::looked))]
 #[unsafe(no_mangle)]
 pub extern "C" fn pauseless_same(
@@ -304,7 +304,7 @@ fn is_null_refused(heap: &mut Handle, thread: u32, register: u32, is_so: &mut bo
     }
 }
 
-/// Writes whether a register is null. Fails as `Mutating::is_null` does.
+/// Writes whether a register is null. Fails as `Mutate::is_null` does.
 #[tactic(auto, using(crate::proofs::Calling::looked))]
 #[unsafe(no_mangle)]
 pub extern "C" fn pauseless_is_null(

@@ -46,7 +46,7 @@ use thread_records::{Thread, Threads};
 /// globals (`take_row`, `give_back_row`, `new_row`, `store_row`, `store_global_row`, `datum_row`, `set_datum_row`,
 /// `same_row`, `is_null_row`, `copy_register_row` and `clear_register_row`), which return plain values. A row
 /// function requires that its step has passed the tests before it (the thread exists, numbers are in range, it isn't
-/// parked and has no open barrier). `cycle` makes these tests; programs call `Mutating` of `managed`. The row
+/// parked and has no open barrier). `cycle` makes these tests; programs call `Mutate` of `managed`. The row
 /// functions of loads are in `barrier`, those of checkpoints in `checkpoint`, those of marks in `marker`, those of
 /// relocation in `relocate`; they use the readers here and raw edits. Threads, workers, globals and registers count
 /// from 0.

@@ -7,7 +7,7 @@ ghost use Rattle.managed.specs.Batches.{IsRestOfData, IsRestOfLoads, IsRestOfSto
 ghost use Rattle.managed.specs.Batches.{places_test, set_steps, source_test, sources_test, store_steps};
 
 use crate::managed::ManagedHeap;
-use crate::mutating::Mutating;
+use crate::mutating::Mutate;
 use heap::FoundObject;
 use model::Refusal;
 

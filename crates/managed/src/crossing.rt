@@ -5,7 +5,7 @@ ghost use Rattle.model.specs.Checkpoints.{all_crossed};
 ghost use Rattle.managed.specs.Goings.{AllTried, Goes, HasTried, IsCrossing, StandsForSame};
 
 use crate::managed::ManagedHeap;
-use crate::mutating::Mutating;
+use crate::mutating::Mutate;
 use model::{Actor, Refusal, Step};
 
 impl ManagedHeap {

@@ -9,7 +9,7 @@ ghost use Rattle.managed.specs.Goings.{Goes};
 ghost use Rattle.managed.specs.Scrubbing.{AreScrubbed};
 
 use crate::managed::ManagedHeap;
-use crate::mutating::Mutating;
+use crate::mutating::Mutate;
 use model::{Actor, PageList, Refusal, Reply, Step};
 
 impl ManagedHeap {

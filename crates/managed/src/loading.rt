@@ -6,7 +6,7 @@ ghost use Rattle.managed.specs.Goings.{EndsLoad, EndsTrap, Goes, IsClear, IsInBa
 ghost use Rattle.managed.specs.Goings.{MayLoadWhole, TrapsLeft};
 
 use crate::managed::ManagedHeap;
-use crate::mutating::Mutating;
+use crate::mutating::Mutate;
 use cycle::{MOST_TRAPS, heal_is_due};
 use model::{Refusal, Trap};
 

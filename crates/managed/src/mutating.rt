@@ -25,7 +25,7 @@ use model::{Buffer, Refusal, Trap};
 /// Each has the outcome of `Stepping::step` of its step, and returns the answer as a plain value. If the heap
 /// represents a reference model, in which no object moves or is freed, it also does after the call, whose value is
 /// the reference model's.
-pub trait Mutating {
+pub trait Mutate {
     /// Takes a buffer for the thread, of 1 to the words of a page, in the lowest open page with space, else in a
     /// fresh page, and returns it.
     ///
@@ -188,7 +188,7 @@ impl ManagedHeap {
     }
 }
 
-impl Mutating for ManagedHeap {
+impl Mutate for ManagedHeap {
     #[inline(always)]
     #[tactic(auto, using(crate::proofs::Running::managed_take, crate::proofs::Running::thread_stands))]
     fn take(&mut self, thread: u32, words: u32) -> Result<Buffer, Refusal>

@@ -6,7 +6,7 @@ ghost use Rattle.managed.specs.Goings.{Goes, IsScrub};
 ghost use Rattle.managed.specs.Scrubbing.{AreScrubbed, IsScrubbed, needs_no_scrub};
 
 use crate::managed::ManagedHeap;
-use crate::mutating::Mutating;
+use crate::mutating::Mutate;
 use model::Phase;
 
 impl ManagedHeap {

@@ -12,8 +12,8 @@
 //!
 //! The invariant of the type `Heap` is that it represents a reference model, in which nothing moves or is freed;
 //! `Heap::law` returns it as a fact. `Heap::managed` borrows the `ManagedHeap` inside for reading, and `into_managed`
-//! returns it. Its calls take plain numbers, and policies and increments as arguments, by the traits `Mutating`,
-//! `Holding` and `Counting`.
+//! returns it. Its calls take plain numbers, and policies and increments as arguments, by the traits `Mutate`,
+//! `Collect` and `CollectCounted`.
 //!
 //! Threads of the system share a heap by a `SharedHeap`: each has a `ThreadSeat`, and works in portions of many steps on
 //! a `Mutator`, by the calls of `PortionCalls`, or of `MutatorCalls`, which take plain numbers; a `CollectorSeat`
@@ -37,7 +37,7 @@ pub mod prelude;
 
 pub use choosing::choose;
 pub use collecting::{
-    CallFault, Cause, Collected, Counters, Counting, Holding, Number, Object, Parts, Policy,
+    CallFault, Cause, Collect, CollectCounted, Collected, Counters, Number, Object, Parts, Policy,
     PolicyFault, Target, collect_by, collect_counted_by, wrong_number,
 };
 pub use cycle::{
@@ -48,7 +48,7 @@ pub use drains::{Portion, is_ready};
 pub use heap::{Config, ConfigFault, NewFault, Refusal};
 pub use heap_images::{image_of, verify};
 pub use layout::{Layout, Layouts};
-pub use managed::{FieldLoad, LoadsFault, ManagedHeap, Mutating};
+pub use managed::{FieldLoad, LoadsFault, ManagedHeap, Mutate};
 pub use portions::{
     CollectorSeat, Handle, Mutator, MutatorCalls, OpenFault, Seats, SharedHeap, ThreadSeat, View,
 };

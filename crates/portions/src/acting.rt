@@ -19,8 +19,8 @@ ghost use Rattle.portions.specs.Portions.{GoesOn, ThenCrosses};
 use crate::calls::MutatorCalls;
 use crate::mutator::Mutator;
 use crate::settling::settle;
-use collecting::{Collected, Holding, Object, Policy};
-use managed::{FieldLoad, LoadsFault, Mutating};
+use collecting::{Collect, Collected, Object, Policy};
+use managed::{FieldLoad, LoadsFault, Mutate};
 use model::{Buffer, Refusal};
 use std::alloc::Global;
 

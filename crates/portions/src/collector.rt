@@ -8,7 +8,7 @@ use crate::mutator::Mutator;
 use crate::seats::CollectorSeat;
 use crate::settling::settle;
 use crate::shared::SharedHeap;
-use collecting::{Holding, Parts, Policy};
+use collecting::{Collect, Parts, Policy};
 use model::Refusal;
 use std::alloc::Global;
 use std::sync::Wait;
@@ -61,7 +61,7 @@ impl Mutator {
 }
 
 impl SharedHeap {
-    /// Does the next part of a collection between two portions, as `Holding::collect_some` does: all threads are
+    /// Does the next part of a collection between two portions, as `Collect::collect_some` does: all threads are
     /// parked meanwhile, so it waits for none of them. A part takes time in proportion to `budget`, the number of
     /// objects that it scans at most. Pages of which at most `percent` words of a hundred are live are emptied.
     /// Returns whether the collection has ended.

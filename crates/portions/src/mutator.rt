@@ -6,7 +6,7 @@ ghost use Rattle.portions.specs.Apart.{IsApart, IsStill};
 ghost use Rattle.portions.specs.Portions.{Begins, GoesOn, HoldsInPortion};
 
 use crate::seats::ThreadSeat;
-use managed::{ManagedHeap, Mutating};
+use managed::{ManagedHeap, Mutate};
 use std::marker::Model;
 use viewing::View;
 

@@ -10,7 +10,7 @@ use crate::settling::settle;
 use crate::shared::SharedHeap;
 use collecting::Parts;
 use heap::Heap;
-use managed::{ManagedHeap, Mutating};
+use managed::{ManagedHeap, Mutate};
 use model::Refusal;
 use std::alloc::Global;
 

@@ -8,7 +8,7 @@
 //! | 3 | 6 | 16 | the last object, and the first one, whose number is still there at the end |
 
 use anyhow::Result;
-use pauseless::{Config, Holding, Layout, Layouts, ManagedHeap, Policy};
+use pauseless::{Collect, Config, Layout, Layouts, ManagedHeap, Policy};
 use std::alloc::Global;
 
 /// The program's one thread.
@@ -36,7 +36,7 @@ fn new_heap(alloc: Global, frames: u32, pages: u32) -> Result<ManagedHeap> {
 /// Allocates `count` garbage objects, not even kept in a register.
 fn waste_all(
     alloc: Global,
-    mut heap: impl Holding + Drop,
+    mut heap: impl Collect + Drop,
     policy: Policy,
     count: u64,
 ) -> Result<()> {
@@ -48,7 +48,7 @@ fn waste_all(
 }
 
 /// Allocates `count` garbage objects, except the last one.
-fn waste(alloc: Global, heap: &mut impl Holding, policy: Policy, count: u64) -> Result<()> {
+fn waste(alloc: Global, heap: &mut impl Collect, policy: Policy, count: u64) -> Result<()> {
     for _ in 0..count {
         heap.make(alloc, policy, ME, LOST, 0)?;
     }
@@ -58,7 +58,7 @@ fn waste(alloc: Global, heap: &mut impl Holding, policy: Policy, count: u64) -> 
 /// Does the same in a heap that is freed then.
 fn waste_last(
     alloc: Global,
-    mut heap: impl Holding + Drop,
+    mut heap: impl Collect + Drop,
     policy: Policy,
     count: u64,
 ) -> Result<()> {
@@ -88,7 +88,7 @@ fn waste_in_two(alloc: Global, count: u64) -> Result<()> {
 /// Does the same in a heap that keeps one object. Returns the number in it at the end.
 fn keep_one(
     alloc: Global,
-    mut heap: impl Holding + Drop,
+    mut heap: impl Collect + Drop,
     policy: Policy,
     count: u64,
 ) -> Result<u64> {

@@ -2,7 +2,7 @@
 
 use crate::heaps::new_heap;
 use crate::same::same;
-use collecting::{Holding, Policy};
+use collecting::{Collect, Policy};
 use heap::Config;
 use layout::{Layout, Layouts};
 use managed::{FieldLoad, LoadsFault, ManagedHeap};
@@ -35,7 +35,7 @@ fn new_pairs(alloc: Global) -> Result<ManagedHeap, Fail> {
 }
 
 /// Allocates two objects with a number each, and one that refers to both, first to the second.
-fn pair(alloc: Global, heap: &mut impl Holding) -> Result<(), Refusal> {
+fn pair(alloc: Global, heap: &mut impl Collect) -> Result<(), Refusal> {
     heap.make_with(alloc, POLICY, ME, FIRST, 0, &[], &[1, 10])?;
     heap.make_with(alloc, POLICY, ME, SECOND, 0, &[FIRST, SECOND], &[2])?;
     heap.make_with(alloc, POLICY, ME, BOTH, 0, &[SECOND, FIRST], &[3, 30])?;
@@ -47,7 +47,7 @@ fn load(target: u32, field: u32) -> FieldLoad {
 }
 
 /// The object has what was given: a source that is the new object's own register refers to the new object.
-fn is_filled(rt: &impl Abort, alloc: Global, mut heap: impl Holding + Drop) {
+fn is_filled(rt: &impl Abort, alloc: Global, mut heap: impl Collect + Drop) {
     same(rt, pair(alloc, &mut heap), Ok(()));
     same(rt, heap.datum(ME, BOTH, 1), Ok(30));
     let both = [load(FIRST, 0), load(READ, 1)];
@@ -66,7 +66,7 @@ fn objects_are_filled(rt: HostRuntime) -> Result<(), Fail> {
 }
 
 /// Loads stop at the first that fails, and return how many are done; these stay.
-fn stops(rt: &impl Abort, alloc: Global, mut heap: impl Holding + Drop) {
+fn stops(rt: &impl Abort, alloc: Global, mut heap: impl Collect + Drop) {
     same(rt, pair(alloc, &mut heap), Ok(()));
     let fault = LoadsFault {
         done: 1,
@@ -86,7 +86,7 @@ fn loads_stop_at_the_first_that_fails(rt: HostRuntime) -> Result<(), Fail> {
 }
 
 /// If the object can't be filled none is allocated, and the register stays.
-fn makes_none(rt: &impl Abort, alloc: Global, mut heap: impl Holding + Drop) {
+fn makes_none(rt: &impl Abort, alloc: Global, mut heap: impl Collect + Drop) {
     same(rt, pair(alloc, &mut heap), Ok(()));
     for (layout, sources) in [(1, [FIRST]), (0, [16])] {
         let made = heap.make_with(alloc, POLICY, ME, BOTH, layout, &sources, &[]);
@@ -109,7 +109,7 @@ fn nothing_is_made_that_cant_be_filled(rt: HostRuntime) -> Result<(), Fail> {
 }
 
 /// Allocates objects that refer to the one before, of which the last few are kept: the heap is collected for them.
-fn chain(alloc: Global, heap: &mut impl Holding, count: u64) -> Result<(), Refusal> {
+fn chain(alloc: Global, heap: &mut impl Collect, count: u64) -> Result<(), Refusal> {
     let policy = Policy::usual(16, 4);
     heap.make_with(alloc, policy, ME, FIRST, 0, &[], &[0])?;
     for number in 1..count {
@@ -122,7 +122,7 @@ fn chain(alloc: Global, heap: &mut impl Holding, count: u64) -> Result<(), Refus
     Ok(())
 }
 
-fn is_chained(rt: &impl Abort, alloc: Global, mut heap: impl Holding + Drop) {
+fn is_chained(rt: &impl Abort, alloc: Global, mut heap: impl Collect + Drop) {
     same(rt, chain(alloc, &mut heap, 1000), Ok(()));
     same(rt, heap.loads(ME, FIRST, &[load(SECOND, 0)]), Ok(()));
     same(rt, heap.datum(ME, FIRST, 0), Ok(999));

@@ -1,7 +1,7 @@
 //! Copying data words, and reading and writing bytes, many by one call.
 
 use crate::same::same;
-use collecting::{Holding, Parts, Policy};
+use collecting::{Collect, Parts, Policy};
 use heap::Config;
 use layout::{Layout, Layouts};
 use managed::ManagedHeap;
@@ -60,7 +60,7 @@ fn plain_bytes() -> [u8; MANY_BYTES] {
 }
 
 /// Allocates a long object with its numbers, and a short one of two words.
-fn makes(alloc: Global, heap: &mut impl Holding) -> Result<(), Refusal> {
+fn makes(alloc: Global, heap: &mut impl Collect) -> Result<(), Refusal> {
     heap.make(alloc, POLICY, ME, LONG, 0)?;
     heap.make(alloc, POLICY, ME, SHORT, 1)?;
     heap.set_many(ME, LONG, 0, &numbers())?;
@@ -68,7 +68,7 @@ fn makes(alloc: Global, heap: &mut impl Holding) -> Result<(), Refusal> {
 }
 
 /// The long object's words are its numbers, but for `count` words from `to` on, which are those from `from` on.
-fn is_moved(rt: &impl Abort, heap: &impl Holding, to: usize, from: usize, count: usize) {
+fn is_moved(rt: &impl Abort, heap: &impl Collect, to: usize, from: usize, count: usize) {
     let numbers = numbers();
     for place in 0..MANY {
         let source = if place >= to && place - to < count {
@@ -86,7 +86,7 @@ fn is_moved(rt: &impl Abort, heap: &impl Holding, to: usize, from: usize, count:
 }
 
 /// Words are copied within an object, up and down, by way of a short list and of a long one.
-fn copies_within(rt: &impl Abort, heap: &mut impl Holding) -> Result<(), Refusal> {
+fn copies_within(rt: &impl Abort, heap: &mut impl Collect) -> Result<(), Refusal> {
     for (to, from, count) in [
         (1, 0, 32),
         (0, 1, 33),
@@ -102,7 +102,7 @@ fn copies_within(rt: &impl Abort, heap: &mut impl Holding) -> Result<(), Refusal
 }
 
 /// Words are copied to another object, and back.
-fn copies_across(rt: &impl Abort, heap: &mut impl Holding) -> Result<(), Refusal> {
+fn copies_across(rt: &impl Abort, heap: &mut impl Collect) -> Result<(), Refusal> {
     let numbers = numbers();
     heap.copy_data(ME, SHORT, 0, LONG, 78, 2)?;
     same(rt, heap.datum(ME, SHORT, 0).ok(), numbers.get(78).copied());
@@ -113,7 +113,7 @@ fn copies_across(rt: &impl Abort, heap: &mut impl Holding) -> Result<(), Refusal
 }
 
 /// Bytes are those of the words, from each byte of a word on, of few words and of many.
-fn bytes_are_there(rt: &impl Abort, heap: &impl Holding) {
+fn bytes_are_there(rt: &impl Abort, heap: &impl Collect) {
     let plain = plain_bytes();
     for first in [0, 1, 7, 8, 13, 639] {
         for size in [0, 1, 8, 9, 300, MANY_BYTES] {
@@ -128,7 +128,7 @@ fn bytes_are_there(rt: &impl Abort, heap: &impl Holding) {
 }
 
 /// Bytes are written, and the bytes around them stay.
-fn bytes_are_written(rt: &impl Abort, heap: &mut impl Holding) -> Result<(), Refusal> {
+fn bytes_are_written(rt: &impl Abort, heap: &mut impl Collect) -> Result<(), Refusal> {
     let mut bytes = plain_bytes();
     for (first, size) in [(3, 2), (5, 3), (6, 4), (15, 1), (639, 1), (1, 637), (2, 0)] {
         for byte in &mut bytes[first..first + size] {
@@ -143,7 +143,7 @@ fn bytes_are_written(rt: &impl Abort, heap: &mut impl Holding) -> Result<(), Ref
 }
 
 /// A call that fails has written nothing.
-fn are_refused(rt: &impl Abort, heap: &mut impl Holding) {
+fn are_refused(rt: &impl Abort, heap: &mut impl Collect) {
     let mut byte = [0];
     for (register, refusal) in [(NULL, Refusal::Null), (16, Refusal::BadIndex)] {
         let read = heap.read_bytes(ME, register, 0, &mut byte);
@@ -181,7 +181,7 @@ fn are_refused(rt: &impl Abort, heap: &mut impl Holding) {
 }
 
 /// A parked thread neither copies nor reads nor writes; zero words and bytes can be read by any register.
-fn parked_and_none(rt: &impl Abort, heap: &mut impl Holding) -> Result<(), Refusal> {
+fn parked_and_none(rt: &impl Abort, heap: &mut impl Collect) -> Result<(), Refusal> {
     same(rt, heap.copy_data(ME, NULL, 9, NULL, 9, 0), Ok(()));
     same(rt, heap.read_bytes(ME, NULL, 9, &mut []), Ok(()));
     same(rt, heap.write_bytes(ME, NULL, 9, &[]), Ok(()));
@@ -205,7 +205,7 @@ fn parked_and_none(rt: &impl Abort, heap: &mut impl Holding) -> Result<(), Refus
 }
 
 /// Each call works in each part of a collection that moves the objects.
-fn in_parts(rt: &impl Abort, alloc: Global, heap: &mut impl Holding) -> Result<(), Refusal> {
+fn in_parts(rt: &impl Abort, alloc: Global, heap: &mut impl Collect) -> Result<(), Refusal> {
     let mut parts = Parts::new(alloc);
     for _part in 0u64.. {
         let ended = heap.collect_some(alloc, &mut parts, 100, 1)?;
@@ -219,7 +219,7 @@ fn in_parts(rt: &impl Abort, alloc: Global, heap: &mut impl Holding) -> Result<(
     Ok(())
 }
 
-fn whole(rt: &impl Abort, alloc: Global, mut heap: impl Holding + Drop) -> Result<(), Refusal> {
+fn whole(rt: &impl Abort, alloc: Global, mut heap: impl Collect + Drop) -> Result<(), Refusal> {
     makes(alloc, &mut heap)?;
     bytes_are_there(rt, &heap);
     copies_within(rt, &mut heap)?;

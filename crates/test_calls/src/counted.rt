@@ -2,7 +2,7 @@
 
 use crate::heaps::new_heap;
 use crate::same::same;
-use collecting::{Counters, Counting, Parts, Policy};
+use collecting::{CollectCounted, Counters, Parts, Policy};
 use model::Refusal;
 use std::alloc::Global;
 use std::process::Abort;
@@ -25,7 +25,7 @@ fn policy(free: u32) -> Policy {
 /// Allocates `count` garbage objects, each filled with one number.
 fn waste(
     alloc: Global,
-    heap: &mut impl Counting,
+    heap: &mut impl CollectCounted,
     counters: &mut Counters,
     free: u32,
     count: u32,
@@ -38,7 +38,11 @@ fn waste(
 }
 
 /// A page has five objects: the sixth gets a fresh buffer, which takes a collection.
-fn counts(rt: &impl Abort, alloc: Global, mut heap: impl Counting + Drop) -> Result<(), Fail> {
+fn counts(
+    rt: &impl Abort,
+    alloc: Global,
+    mut heap: impl CollectCounted + Drop,
+) -> Result<(), Fail> {
     let mut counters = Counters::new();
     heap.make_counted(alloc, &mut counters, policy(4), ME, LOST, 0)?;
     same(rt, (counters.by_policy, counters.ended), (1, 1));
@@ -62,7 +66,7 @@ fn collections_are_counted(rt: HostRuntime) -> Result<(), Fail> {
 /// Does all parts of a collection, each with this budget. Returns how many they are.
 fn parts_of(
     alloc: Global,
-    heap: &mut impl Counting,
+    heap: &mut impl CollectCounted,
     counters: &mut Counters,
     parts: &mut Parts,
 ) -> Result<u64, Refusal> {
@@ -78,7 +82,7 @@ fn parts_of(
 fn counts_parts(
     rt: &impl Abort,
     alloc: Global,
-    mut heap: impl Counting + Drop,
+    mut heap: impl CollectCounted + Drop,
 ) -> Result<(), Fail> {
     let (mut counters, mut parts) = (Counters::new(), Parts::new(alloc));
     waste(alloc, &mut heap, &mut counters, 0, 20)?;

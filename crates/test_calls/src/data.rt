@@ -1,7 +1,7 @@
 //! Several data words by one call.
 
 use crate::same::same;
-use collecting::{Holding, Parts, Policy};
+use collecting::{Collect, Parts, Policy};
 use heap::Config;
 use layout::{Layout, Layouts};
 use managed::ManagedHeap;
@@ -49,7 +49,7 @@ fn numbers() -> [u64; MANY] {
 }
 
 /// Allocates a long object with its numbers, and a short one of two words.
-fn makes(alloc: Global, heap: &mut impl Holding) -> Result<(), Refusal> {
+fn makes(alloc: Global, heap: &mut impl Collect) -> Result<(), Refusal> {
     heap.make(alloc, POLICY, ME, LONG, 0)?;
     heap.make(alloc, POLICY, ME, SHORT, 1)?;
     heap.set_many(ME, LONG, 0, &numbers())?;
@@ -57,7 +57,7 @@ fn makes(alloc: Global, heap: &mut impl Holding) -> Result<(), Refusal> {
 }
 
 /// The words are read one by one, and in ranges of each length.
-fn are_there(rt: &impl Abort, heap: &impl Holding) {
+fn are_there(rt: &impl Abort, heap: &impl Collect) {
     let numbers = numbers();
     for (place, number) in numbers.iter().enumerate() {
         same_at(rt, place, heap.datum(ME, LONG, place as u32), Ok(*number));
@@ -72,7 +72,7 @@ fn are_there(rt: &impl Abort, heap: &impl Holding) {
 }
 
 /// Words past the end are neither read nor written, and no word next to them is written.
-fn are_refused(rt: &impl Abort, heap: &mut impl Holding) {
+fn are_refused(rt: &impl Abort, heap: &mut impl Collect) {
     let mut read = [0; 3];
     for first in [0, 1, 2, u32::MAX] {
         let written = heap.set_many(ME, SHORT, first, &[7, 8, 9]);
@@ -92,13 +92,13 @@ fn are_refused(rt: &impl Abort, heap: &mut impl Holding) {
 }
 
 /// Zero words can be read and written by any register.
-fn none_is_asked(rt: &impl Abort, heap: &mut impl Holding) {
+fn none_is_asked(rt: &impl Abort, heap: &mut impl Collect) {
     same(rt, heap.set_many(ME, NULL, 9, &[]), Ok(()));
     same(rt, heap.get_many(ME, NULL, 9, &mut []), Ok(()));
 }
 
 /// Words are read and written in each part of a collection that moves their object.
-fn in_parts(rt: &impl Abort, alloc: Global, heap: &mut impl Holding) -> Result<(), Refusal> {
+fn in_parts(rt: &impl Abort, alloc: Global, heap: &mut impl Collect) -> Result<(), Refusal> {
     let mut parts = Parts::new(alloc);
     for part in 0u64.. {
         let ended = heap.collect_some(alloc, &mut parts, 100, 1)?;
@@ -112,7 +112,7 @@ fn in_parts(rt: &impl Abort, alloc: Global, heap: &mut impl Holding) -> Result<(
     Ok(())
 }
 
-fn whole(rt: &impl Abort, alloc: Global, mut heap: impl Holding + Drop) -> Result<(), Refusal> {
+fn whole(rt: &impl Abort, alloc: Global, mut heap: impl Collect + Drop) -> Result<(), Refusal> {
     makes(alloc, &mut heap)?;
     are_there(rt, &heap);
     are_refused(rt, &mut heap);

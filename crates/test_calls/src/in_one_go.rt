@@ -2,7 +2,7 @@
 //! load. Their contracts allow that nothing is done; then the slow call does it.
 
 use crate::same::same;
-use collecting::{Holding, Policy};
+use collecting::{Collect, Policy};
 use heap::Config;
 use layout::{Layout, Layouts};
 use managed::ManagedHeap;
@@ -20,7 +20,7 @@ const NODE: u32 = 0;
 const READ: u32 = 1;
 
 /// A heap whose calls are done in one go.
-trait InOneGo: Holding {
+trait InOneGo: Collect {
     /// Returns whether each call on the object in a register is done.
     fn are_done(&mut self) -> [bool; 6];
 }
@@ -39,7 +39,7 @@ impl InOneGo for ManagedHeap {
 }
 
 /// Allocates an object of two references and one data word.
-fn make(alloc: Global, heap: &mut impl Holding) -> Result<u64, Refusal> {
+fn make(alloc: Global, heap: &mut impl Collect) -> Result<u64, Refusal> {
     let policy = Policy {
         words: 16,
         free: 0,

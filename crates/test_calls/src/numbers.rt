@@ -2,7 +2,7 @@
 
 use crate::heaps::new_heap;
 use crate::same::same;
-use collecting::{CallFault, Holding, Number, Policy, PolicyFault};
+use collecting::{CallFault, Collect, Number, Policy, PolicyFault};
 use managed::ManagedHeap;
 use model::{Refusal, Step};
 use std::alloc::{AllocError, Global};
@@ -52,7 +52,7 @@ fn stores(
 
 /// A store by the trait.
 fn store(
-    heap: &mut impl Holding,
+    heap: &mut impl Collect,
     thread: u32,
     object: u32,
     field: u32,

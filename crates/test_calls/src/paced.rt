@@ -1,7 +1,7 @@
 //! A cache whose entries are replaced one by one, and the counters of its collections.
 
 use crate::same::same;
-use collecting::{Counters, Counting, Parts, Policy};
+use collecting::{CollectCounted, Counters, Parts, Policy};
 use heap::Config;
 use layout::{Layout, Layouts};
 use managed::ManagedHeap;
@@ -68,7 +68,7 @@ fn load_of(alloc: Global, free: u32, budget: u32) -> Load {
 /// Allocates an object of a layout in a register.
 fn make(
     alloc: Global,
-    heap: &mut impl Counting,
+    heap: &mut impl CollectCounted,
     load: &mut Load,
     target: u32,
     layout: u32,
@@ -91,7 +91,7 @@ fn make(
 /// Replaces an entry in a place of the table.
 fn replace(
     alloc: Global,
-    heap: &mut impl Counting,
+    heap: &mut impl CollectCounted,
     load: &mut Load,
     place: u32,
 ) -> Result<(), Refusal> {
@@ -102,7 +102,7 @@ fn replace(
 }
 
 /// Makes a table, with an entry in each place.
-fn fill(alloc: Global, heap: &mut impl Counting, load: &mut Load) -> Result<(), Refusal> {
+fn fill(alloc: Global, heap: &mut impl CollectCounted, load: &mut Load) -> Result<(), Refusal> {
     make(alloc, heap, load, TABLE, ROWS)?;
     for row in 0..WIDTH {
         make(alloc, heap, load, ROW, ROWS)?;
@@ -117,7 +117,7 @@ fn fill(alloc: Global, heap: &mut impl Counting, load: &mut Load) -> Result<(), 
 /// Replaces `count` entries, in pseudorandom places.
 fn replace_some(
     alloc: Global,
-    heap: &mut impl Counting,
+    heap: &mut impl CollectCounted,
     load: &mut Load,
     count: u32,
 ) -> Result<(), Refusal> {
@@ -134,7 +134,7 @@ fn replace_some(
 fn most_paced(
     rt: &impl Abort,
     alloc: Global,
-    mut heap: impl Counting + Drop,
+    mut heap: impl CollectCounted + Drop,
     free: u32,
     budget: u32,
 ) -> Result<u64, Fail> {
@@ -173,7 +173,7 @@ fn make_never_collects_by_one_call(rt: HostRuntime) -> Result<(), Fail> {
 /// Does all parts of a collection.
 fn collect_in_parts(
     alloc: Global,
-    heap: &mut impl Counting,
+    heap: &mut impl CollectCounted,
     load: &mut Load,
 ) -> Result<(), Refusal> {
     for _ in 0..100_000u32 {
@@ -185,7 +185,11 @@ fn collect_in_parts(
 }
 
 /// Returns how many pages a collection of a cache empties: by one call if the budget is 0, else in parts.
-fn emptied(alloc: Global, mut heap: impl Counting + Drop, budget: u32) -> Result<u64, Refusal> {
+fn emptied(
+    alloc: Global,
+    mut heap: impl CollectCounted + Drop,
+    budget: u32,
+) -> Result<u64, Refusal> {
     let mut load = load_of(alloc, 0, budget);
     fill(alloc, &mut heap, &mut load)?;
     replace_some(alloc, &mut heap, &mut load, 600)?;
@@ -213,7 +217,7 @@ fn parts_free_what_one_call_frees(rt: HostRuntime) -> Result<(), Fail> {
 /// Keeps entries, each by the next one, until no frame is left. Returns how many they are.
 fn keep_all(
     alloc: Global,
-    heap: &mut impl Counting,
+    heap: &mut impl CollectCounted,
     counters: &mut Counters,
     free: u32,
 ) -> Result<u32, Refusal> {
@@ -229,7 +233,11 @@ fn keep_all(
 }
 
 /// While a heap fills with live objects, it is collected a few times, and not for each of its last frames.
-fn is_calm(rt: &impl Abort, alloc: Global, mut heap: impl Counting + Drop) -> Result<(), Fail> {
+fn is_calm(
+    rt: &impl Abort,
+    alloc: Global,
+    mut heap: impl CollectCounted + Drop,
+) -> Result<(), Fail> {
     let mut counters = Counters::new();
     let count = keep_all(alloc, &mut heap, &mut counters, 64)?;
     same(rt, count, 1024);

@@ -2,7 +2,7 @@
 
 use crate::heaps::new_heap;
 use crate::same::same;
-use collecting::{Holding, Parts, Policy};
+use collecting::{Collect, Parts, Policy};
 use heap::Heap;
 use managed::ManagedHeap;
 use model::Refusal;
@@ -25,7 +25,7 @@ const POLICY: Policy = Policy {
 };
 
 /// A heap whose frames are counted, and the pages whose objects' sizes are kept.
-trait Framed: Holding {
+trait Framed: Collect {
     fn used_frames(&self) -> usize;
 
     fn sized_pages(&self) -> usize;

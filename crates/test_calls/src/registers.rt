@@ -1,7 +1,7 @@
 //! Registers after each part of a collection, and after a complete one.
 
 use crate::same::same;
-use collecting::{Holding, Parts, Policy};
+use collecting::{Collect, Parts, Policy};
 use heap::Config;
 use layout::{Layout, Layouts};
 use managed::ManagedHeap;
@@ -38,14 +38,14 @@ fn datum(thread: u32, register: u32) -> u64 {
 }
 
 /// Allocates an object in a register of a thread, after four garbage ones, with which it fills a page.
-fn fill(alloc: Global, heap: &mut impl Holding, thread: u32, register: u32) -> Result<(), Refusal> {
+fn fill(alloc: Global, heap: &mut impl Collect, thread: u32, register: u32) -> Result<(), Refusal> {
     for _ in 0..5 {
         heap.make(alloc, POLICY, thread, register, 0)?;
     }
     heap.set_datum(thread, register, 0, datum(thread, register))
 }
 
-fn fill_all(alloc: Global, heap: &mut impl Holding) -> Result<(), Refusal> {
+fn fill_all(alloc: Global, heap: &mut impl Collect) -> Result<(), Refusal> {
     for thread in 0..THREADS {
         for register in 0..REGISTERS {
             fill(alloc, heap, thread, register)?;
@@ -56,7 +56,7 @@ fn fill_all(alloc: Global, heap: &mut impl Holding) -> Result<(), Refusal> {
 }
 
 /// Each register of a thread can be read.
-fn reads(rt: &impl Abort, heap: &impl Holding, thread: u32) {
+fn reads(rt: &impl Abort, heap: &impl Collect, thread: u32) {
     for register in 0..REGISTERS {
         same(
             rt,
@@ -70,7 +70,7 @@ fn reads(rt: &impl Abort, heap: &impl Holding, thread: u32) {
 fn by_parts(
     rt: &impl Abort,
     alloc: Global,
-    mut heap: impl Holding + Drop,
+    mut heap: impl Collect + Drop,
     budget: u32,
 ) -> Result<(), Fail> {
     fill_all(alloc, &mut heap)?;
@@ -89,7 +89,7 @@ fn by_parts(
 
 /// After a complete collection each register can be read, except those of a thread that was parked: the next part
 /// corrects these.
-fn whole(rt: &impl Abort, alloc: Global, mut heap: impl Holding + Drop) -> Result<(), Fail> {
+fn whole(rt: &impl Abort, alloc: Global, mut heap: impl Collect + Drop) -> Result<(), Fail> {
     fill_all(alloc, &mut heap)?;
     heap.park(1)?;
     same(rt, heap.collect(alloc, 75)?.emptied, 8);
@@ -111,7 +111,7 @@ fn registers_behind_parts(rt: HostRuntime) -> Result<(), Fail> {
 /// Does parts up to the one that fails at an open load of thread 0, up to a limit.
 fn until_stopped(
     alloc: Global,
-    heap: &mut impl Holding,
+    heap: &mut impl Collect,
     parts: &mut Parts,
     most: u32,
 ) -> Result<(), Refusal> {
@@ -123,7 +123,7 @@ fn until_stopped(
 
 /// The part that protects pages fails at a load that was opened before it. A collection after that does the rest,
 /// once the load has ended.
-fn between(rt: &impl Abort, alloc: Global, heap: &mut impl Holding) -> Result<(), Fail> {
+fn between(rt: &impl Abort, alloc: Global, heap: &mut impl Collect) -> Result<(), Fail> {
     let mut parts = Parts::new(alloc);
     while_marking(rt, alloc, heap, &mut parts)?;
     heap.load(0, 0, 1, 0)?;
@@ -141,7 +141,7 @@ fn between(rt: &impl Abort, alloc: Global, heap: &mut impl Holding) -> Result<()
 fn while_marking(
     rt: &impl Abort,
     alloc: Global,
-    heap: &mut impl Holding,
+    heap: &mut impl Collect,
     parts: &mut Parts,
 ) -> Result<(), Fail> {
     for _ in 0..20 {
@@ -150,7 +150,7 @@ fn while_marking(
     Ok(())
 }
 
-fn stops(rt: &impl Abort, alloc: Global, mut heap: impl Holding + Drop) -> Result<(), Fail> {
+fn stops(rt: &impl Abort, alloc: Global, mut heap: impl Collect + Drop) -> Result<(), Fail> {
     fill_all(alloc, &mut heap)?;
     between(rt, alloc, &mut heap)
 }

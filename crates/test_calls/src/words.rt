@@ -2,7 +2,7 @@
 
 use crate::heaps::new_heap;
 use crate::same::same;
-use collecting::{Collected, Counters, Counting, Parts, Policy};
+use collecting::{CollectCounted, Collected, Counters, Parts, Policy};
 use model::Refusal;
 use std::alloc::Global;
 use std::process::Abort;
@@ -19,7 +19,7 @@ const LAST: u32 = 2;
 
 /// A page of 16 words has five objects of three words. Of those on a first page one lives; those on a second one are a
 /// list; and a third one, which has the thread's buffer, has one. So 21 words live.
-fn fill(heap: &mut impl Counting) -> Result<(), Refusal> {
+fn fill(heap: &mut impl CollectCounted) -> Result<(), Refusal> {
     heap.take(ME, 16)?;
     heap.new_object(ME, ALONE, 0)?;
     for _ in 0..4 {
@@ -39,7 +39,11 @@ fn fill(heap: &mut impl Counting) -> Result<(), Refusal> {
 }
 
 /// Words of open pages live too. The first page is emptied, and then the one to which its object was copied.
-fn collects(rt: &impl Abort, alloc: Global, mut heap: impl Counting + Drop) -> Result<(), Fail> {
+fn collects(
+    rt: &impl Abort,
+    alloc: Global,
+    mut heap: impl CollectCounted + Drop,
+) -> Result<(), Fail> {
     let mut counters = Counters::new();
     fill(&mut heap)?;
     let expected = Collected {
@@ -63,7 +67,7 @@ fn words_of_collections(rt: HostRuntime) -> Result<(), Fail> {
 }
 
 /// The first and the third page are emptied for a fresh buffer.
-fn makes(rt: &impl Abort, alloc: Global, mut heap: impl Counting + Drop) -> Result<(), Fail> {
+fn makes(rt: &impl Abort, alloc: Global, mut heap: impl CollectCounted + Drop) -> Result<(), Fail> {
     let mut counters = Counters::new();
     let policy = Policy {
         words: 16,
@@ -88,7 +92,7 @@ fn words_of_a_collection_for_an_object(rt: HostRuntime) -> Result<(), Fail> {
 fn goes_by_parts(
     rt: &impl Abort,
     alloc: Global,
-    mut heap: impl Counting + Drop,
+    mut heap: impl CollectCounted + Drop,
 ) -> Result<(), Fail> {
     let (mut counters, mut parts) = (Counters::new(), Parts::new(alloc));
     fill(&mut heap)?;

@@ -1,7 +1,7 @@
 //! Loads and stores between the parts of a collection.
 
 use crate::listing::{LIVE, check, heap_of, insert, insert_all};
-use collecting::{Holding, Parts};
+use collecting::{Collect, Parts};
 use managed::ManagedHeap;
 use model::Refusal;
 use std::alloc::Global;
@@ -18,7 +18,7 @@ fn new_heap(alloc: Global) -> Result<ManagedHeap, Fail> {
 /// Does `count` parts, each of one object or one page.
 fn collect(
     alloc: Global,
-    heap: &mut impl Holding,
+    heap: &mut impl Collect,
     parts: &mut Parts,
     count: u32,
 ) -> Result<(), Refusal> {
@@ -32,7 +32,7 @@ fn collect(
 fn stays(
     rt: &impl Abort,
     alloc: Global,
-    mut heap: impl Holding + Drop,
+    mut heap: impl Collect + Drop,
     before: u32,
 ) -> Result<(), Fail> {
     let mut parts = Parts::new(alloc);
@@ -55,7 +55,7 @@ fn one_load_between(rt: HostRuntime) -> Result<(), Fail> {
 }
 
 /// After each part an object is added to the list, and the list is complete.
-fn goes_on(rt: &impl Abort, alloc: Global, mut heap: impl Holding + Drop) -> Result<(), Fail> {
+fn goes_on(rt: &impl Abort, alloc: Global, mut heap: impl Collect + Drop) -> Result<(), Fail> {
     let mut parts = Parts::new(alloc);
     insert_all(alloc, &mut heap)?;
     for turn in LIVE..PARTS {

@@ -2,7 +2,7 @@
 
 use crate::heaps::new_heap;
 use crate::same::same;
-use collecting::{Collected, Holding, Parts, Policy};
+use collecting::{Collect, Collected, Parts, Policy};
 use managed::ManagedHeap;
 use model::{PageState, Refusal};
 use std::alloc::Global;
@@ -18,7 +18,7 @@ const PAGES: u32 = 8;
 const NEW: u32 = PAGES;
 
 /// A heap whose pages are read.
-trait Paged: Holding {
+trait Paged: Collect {
     fn free_frames(&self) -> u32;
 
     /// Returns whether a page, by its number from 1, was emptied.

@@ -2,7 +2,7 @@
 
 use crate::listing::{LIVE, check, heap_of, insert_all};
 use crate::same::same;
-use collecting::{Holding, Parts};
+use collecting::{Collect, Parts};
 use model::Refusal;
 use std::alloc::Global;
 use std::process::Abort;
@@ -50,7 +50,7 @@ fn most_parts(budget: u32) -> u32 {
 /// Does the parts of one collection, up to a limit. Returns how many there were, including the last one.
 pub fn count_parts(
     alloc: Global,
-    heap: &mut impl Holding,
+    heap: &mut impl Collect,
     parts: &mut Parts,
     budget: u32,
     most: u32,
@@ -67,7 +67,7 @@ pub fn count_parts(
 fn collections(
     rt: &impl Abort,
     alloc: Global,
-    heap: &mut impl Holding,
+    heap: &mut impl Collect,
     budget: u32,
     count: u32,
 ) -> Result<u32, Fail> {
@@ -87,7 +87,7 @@ fn collections(
 fn counts(
     rt: &impl Abort,
     alloc: Global,
-    mut heap: impl Holding + Drop,
+    mut heap: impl Collect + Drop,
     budget: u32,
 ) -> Result<u32, Fail> {
     insert_all(alloc, &mut heap)?;

@@ -1,7 +1,7 @@
 //! A list in a heap of several threads, in which every second object is garbage.
 
 use crate::same::same;
-use collecting::{Holding, Policy};
+use collecting::{Collect, Policy};
 use heap::Config;
 use layout::{Layout, Layouts};
 use managed::ManagedHeap;
@@ -43,13 +43,13 @@ pub fn heap_of(alloc: Global, pages: u32) -> Result<ManagedHeap, Fail> {
 }
 
 /// Allocates an object with this datum, in the register `NEW`.
-fn make(alloc: Global, heap: &mut impl Holding, datum: u64) -> Result<(), Refusal> {
+fn make(alloc: Global, heap: &mut impl Collect, datum: u64) -> Result<(), Refusal> {
     heap.make(alloc, POLICY, ME, NEW, 0)?;
     heap.set_datum(ME, NEW, 0, datum)
 }
 
 /// Inserts a new object with this datum after the head: a load and two stores.
-pub fn insert(alloc: Global, heap: &mut impl Holding, datum: u64) -> Result<(), Refusal> {
+pub fn insert(alloc: Global, heap: &mut impl Collect, datum: u64) -> Result<(), Refusal> {
     make(alloc, heap, datum)?;
     heap.read(ME, BEHIND, HEAD, 0)?;
     heap.store(ME, NEW, 0, BEHIND)?;
@@ -59,7 +59,7 @@ pub fn insert(alloc: Global, heap: &mut impl Holding, datum: u64) -> Result<(), 
 }
 
 /// Makes the list: its head, and the others by rising data, with a garbage object after each.
-pub fn insert_all(alloc: Global, heap: &mut impl Holding) -> Result<(), Refusal> {
+pub fn insert_all(alloc: Global, heap: &mut impl Collect) -> Result<(), Refusal> {
     make(alloc, heap, HEADS)?;
     heap.copy_register(ME, HEAD, NEW)?;
     for datum in 0..LIVE.wrapping_sub(1) {
@@ -71,7 +71,7 @@ pub fn insert_all(alloc: Global, heap: &mut impl Holding) -> Result<(), Refusal>
 }
 
 /// The list has `count` objects, with their data by falling numbers after the head.
-pub fn check(rt: &impl Abort, heap: &mut impl Holding, count: u32) -> Result<(), Refusal> {
+pub fn check(rt: &impl Abort, heap: &mut impl Collect, count: u32) -> Result<(), Refusal> {
     same(rt, heap.datum(ME, HEAD, 0), Ok(HEADS));
     heap.copy_register(ME, BEHIND, HEAD)?;
     for turn in 2..count.wrapping_add(1) {

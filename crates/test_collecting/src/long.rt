@@ -2,7 +2,7 @@
 
 use crate::counting::count_parts;
 use crate::same::same;
-use collecting::{Holding, Parts, Policy};
+use collecting::{Collect, Parts, Policy};
 use heap::Config;
 use layout::{Layout, Layouts};
 use managed::ManagedHeap;
@@ -38,7 +38,7 @@ fn heap_of(alloc: Global) -> Result<ManagedHeap, Fail> {
 }
 
 /// Makes a list of `count` objects, each of which refers to the next one by its first reference.
-fn link_all(alloc: Global, heap: &mut impl Holding, count: u32) -> Result<(), Refusal> {
+fn link_all(alloc: Global, heap: &mut impl Collect, count: u32) -> Result<(), Refusal> {
     for _ in 0..count {
         heap.make(alloc, POLICY, ME, NEW, 0)?;
         heap.store(ME, NEW, 0, HEAD)?;
@@ -52,7 +52,7 @@ fn link_all(alloc: Global, heap: &mut impl Holding, count: u32) -> Result<(), Re
 fn takes(
     rt: &impl Abort,
     alloc: Global,
-    mut heap: impl Holding + Drop,
+    mut heap: impl Collect + Drop,
     budget: u32,
     wanted: u32,
 ) -> Result<(), Fail> {

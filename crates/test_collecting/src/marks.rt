@@ -2,7 +2,7 @@
 
 use crate::heaps::new_heap;
 use crate::same::same;
-use collecting::{Collected, Holding, Parts};
+use collecting::{Collect, Collected, Parts};
 use managed::ManagedHeap;
 use model::{Actor, PageList, Refusal, Step};
 use std::alloc::Global;
@@ -15,9 +15,9 @@ const HEAD: u32 = 0;
 
 const NEXT: u32 = 1;
 
-/// The calls of these tests on a heap besides `Holding`. They have no contracts, so that the proofs of tests are
+/// The calls of these tests on a heap besides `Collect`. They have no contracts, so that the proofs of tests are
 /// short.
-trait Marking: Holding {
+trait Marking: Collect {
     /// Does a step of worker 0.
     fn work(&mut self, step: &Step) -> Result<(), Refusal>;
 

@@ -2,7 +2,7 @@
 
 use crate::heaps::new_heap;
 use crate::same::same;
-use collecting::{Holding, Parts, Policy};
+use collecting::{Collect, Parts, Policy};
 use model::Refusal;
 use std::alloc::Global;
 use std::process::Abort;
@@ -17,7 +17,7 @@ const LOST: u32 = 1;
 /// Does parts up to the end of a collection, up to a limit. Returns how many they were.
 fn collect(
     alloc: Global,
-    heap: &mut impl Holding,
+    heap: &mut impl Collect,
     parts: &mut Parts,
     most: u32,
 ) -> Result<u32, Refusal> {
@@ -30,7 +30,7 @@ fn collect(
 }
 
 /// Objects are allocated between the parts, and one is kept; each collection ends.
-fn goes_on(rt: &impl Abort, alloc: Global, mut heap: impl Holding + Drop) -> Result<(), Fail> {
+fn goes_on(rt: &impl Abort, alloc: Global, mut heap: impl Collect + Drop) -> Result<(), Fail> {
     let policy = Policy::usual(16, 8);
     let mut parts = Parts::new(alloc);
     heap.make(alloc, policy, ME, KEPT, 0)?;

@@ -2,7 +2,7 @@
 
 use crate::heaps::new_heap;
 use crate::same::same;
-use collecting::{Holding, Parts, Policy};
+use collecting::{Collect, Parts, Policy};
 use managed::ManagedHeap;
 use model::Refusal;
 use std::alloc::Global;
@@ -15,7 +15,7 @@ const ME: u32 = 0;
 const LOST: u32 = 0;
 
 /// A heap whose free frames are counted.
-trait Framed: Holding {
+trait Framed: Collect {
     fn free_frames(&self) -> u32;
 }
 

@@ -1,7 +1,7 @@
 //! Reports of the heap of a program.
 
 use crate::same::same;
-use collecting::Holding;
+use collecting::Collect;
 use heap::Config;
 use layout::{Layout, Layouts};
 use managed::ManagedHeap;
@@ -12,7 +12,7 @@ use std::process::Abort;
 use std::test::Fail;
 
 /// A heap of which a report can be written.
-trait Told: Holding {
+trait Told: Collect {
     fn told(&self, alloc: Global) -> Result<Vec<u8>, Fail>;
 }
 
@@ -71,7 +71,7 @@ barrier 0 loads 2 gc 1 nmt 0 healed 1 changed 0
 barrier 1 loads 0 gc 0 nmt 0 healed 0 changed 0
 ";
 
-fn make_two(heap: &mut impl Holding) -> Result<(), Refusal> {
+fn make_two(heap: &mut impl Collect) -> Result<(), Refusal> {
     heap.take(0, 16)?;
     heap.new_object(0, 0, 0)?;
     heap.new_object(0, 1, 0)?;

@@ -2,7 +2,7 @@
 
 use crate::heaps::new_heap;
 use crate::same::same;
-use collecting::{Collected, Holding, Object, Policy};
+use collecting::{Collect, Collected, Object, Policy};
 use managed::ManagedHeap;
 use model::Refusal;
 use std::alloc::Global;
@@ -19,7 +19,7 @@ const LOST: u32 = 1;
 /// Allocates `count` garbage objects, not even kept in a register.
 fn waste_all(
     alloc: Global,
-    heap: &mut impl Holding,
+    heap: &mut impl Collect,
     frames: u32,
     count: u32,
 ) -> Result<(), Refusal> {
@@ -31,7 +31,7 @@ fn waste_all(
 }
 
 /// Allocates `count` garbage objects, except the last one.
-fn waste(alloc: Global, heap: &mut impl Holding, frames: u32, count: u32) -> Result<(), Refusal> {
+fn waste(alloc: Global, heap: &mut impl Collect, frames: u32, count: u32) -> Result<(), Refusal> {
     for _ in 0..count {
         heap.make(alloc, Policy::usual(16, frames), ME, LOST, 0)?;
     }
@@ -42,7 +42,7 @@ fn waste(alloc: Global, heap: &mut impl Holding, frames: u32, count: u32) -> Res
 fn wastes_all(
     rt: &impl Abort,
     alloc: Global,
-    mut heap: impl Holding + Drop,
+    mut heap: impl Collect + Drop,
     frames: u32,
 ) -> Result<(), Fail> {
     same(rt, waste_all(alloc, &mut heap, frames, 1000), Ok(()));
@@ -53,7 +53,7 @@ fn wastes_all(
 fn wastes(
     rt: &impl Abort,
     alloc: Global,
-    mut heap: impl Holding + Drop,
+    mut heap: impl Collect + Drop,
     frames: u32,
 ) -> Result<(), Fail> {
     same(rt, waste(alloc, &mut heap, frames, 1000), Ok(()));
@@ -82,7 +82,7 @@ fn more_frames(rt: HostRuntime) -> Result<(), Fail> {
 }
 
 /// An object is kept among garbage, and it moves.
-fn keeps(rt: &impl Abort, alloc: Global, mut heap: impl Holding + Drop) -> Result<(), Fail> {
+fn keeps(rt: &impl Abort, alloc: Global, mut heap: impl Collect + Drop) -> Result<(), Fail> {
     let policy = Policy::usual(16, 3);
     same(rt, heap.make(alloc, policy, ME, KEPT, 0), Ok(0));
     heap.set_datum(ME, KEPT, 0, 9)?;
@@ -105,7 +105,7 @@ fn one_is_kept(rt: HostRuntime) -> Result<(), Fail> {
 }
 
 /// A list of objects, each of which the next refers to: at last the heap is full, and stays so.
-fn fills(rt: &impl Abort, alloc: Global, mut heap: impl Holding + Drop) -> Result<(), Fail> {
+fn fills(rt: &impl Abort, alloc: Global, mut heap: impl Collect + Drop) -> Result<(), Fail> {
     let policy = Policy::usual(16, 3);
     for _ in 0..15 {
         heap.make(alloc, policy, ME, LOST, 0)?;
@@ -139,7 +139,7 @@ fn full(rt: HostRuntime) -> Result<(), Fail> {
 }
 
 /// A thread inside a load prevents the end of a collection; after the load it continues.
-fn waits(rt: &impl Abort, alloc: Global, mut heap: impl Holding + Drop) -> Result<(), Fail> {
+fn waits(rt: &impl Abort, alloc: Global, mut heap: impl Collect + Drop) -> Result<(), Fail> {
     heap.make(alloc, Policy::usual(16, 3), ME, KEPT, 0)?;
     heap.load(ME, LOST, KEPT, 0)?;
     let behind = Err(Refusal::NotCrossed { thread: 0 });

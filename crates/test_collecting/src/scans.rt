@@ -2,7 +2,7 @@
 
 use crate::listing::{LIVE, check, heap_of, insert_all};
 use crate::same::same;
-use collecting::Holding;
+use collecting::Collect;
 use managed::ManagedHeap;
 use model::{Actor, Refusal, Step};
 use std::alloc::Global;
@@ -13,7 +13,7 @@ use std::test::Fail;
 const GLOBALS: u32 = 64;
 
 /// A heap that is marked by steps.
-trait Marked: Holding {
+trait Marked: Collect {
     /// Does a step of worker 0.
     fn work(&mut self, step: Step) -> Result<(), Refusal>;
 

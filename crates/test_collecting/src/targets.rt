@@ -2,7 +2,7 @@
 
 use crate::heaps::new_heap;
 use crate::same::same;
-use collecting::{Holding, Policy, Target};
+use collecting::{Collect, Policy, Target};
 use managed::ManagedHeap;
 use model::Refusal;
 use std::alloc::Global;
@@ -56,7 +56,7 @@ fn a_policy_by_a_target(rt: HostRuntime) -> Result<(), Fail> {
 }
 
 /// A heap whose used frames are counted.
-trait Framed: Holding {
+trait Framed: Collect {
     fn used_frames(&self) -> usize;
 }
 

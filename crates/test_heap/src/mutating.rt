@@ -2,7 +2,7 @@
 
 use crate::same::same;
 use heap::NewFault;
-use managed::{Actor, Answer, Buffer, ManagedHeap, Mutating, PageList, Reply, Step, Trap};
+use managed::{Actor, Answer, Buffer, ManagedHeap, Mutate, PageList, Reply, Step, Trap};
 use model::{Config, Refusal};
 use std::alloc::{AllocError, Global};
 use std::process::Abort;
@@ -16,7 +16,7 @@ const SECOND: u32 = 1;
 const WORKER: Actor = Actor::Worker(0);
 
 /// A heap with the calls of threads, and the steps of workers. The latter have no contracts.
-trait Worked: Mutating {
+trait Worked: Mutate {
     /// Does a step of an actor.
     fn step(&mut self, actor: Actor, step: &Step) -> Reply;
 }
@@ -41,7 +41,7 @@ fn works(rt: &impl Abort, heap: &mut impl Worked, step: Step) {
 }
 
 /// Two objects are allocated in a page of their own, the first of which refers to the second.
-fn make(rt: &impl Abort, heap: &mut impl Mutating) {
+fn make(rt: &impl Abort, heap: &mut impl Mutate) {
     same(rt, heap.give_back(FIRST), Err(Refusal::NoRoom));
     same(rt, heap.take(FIRST, 17), Err(Refusal::BadIndex));
     let buffer = Buffer {
@@ -59,7 +59,7 @@ fn make(rt: &impl Abort, heap: &mut impl Mutating) {
 }
 
 /// Data are written and read.
-fn write(rt: &impl Abort, heap: &mut impl Mutating) {
+fn write(rt: &impl Abort, heap: &mut impl Mutate) {
     same(rt, heap.set_datum(FIRST, 0, 0, 7), Ok(()));
     same(rt, heap.set_datum(FIRST, 1, 0, 8), Ok(()));
     same(rt, heap.datum(FIRST, 0, 0), Ok(7));
@@ -69,7 +69,7 @@ fn write(rt: &impl Abort, heap: &mut impl Mutating) {
 }
 
 /// Registers are copied, compared and cleared.
-fn compare(rt: &impl Abort, heap: &mut impl Mutating) {
+fn compare(rt: &impl Abort, heap: &mut impl Mutate) {
     same(rt, heap.copy_register(FIRST, 2, 1), Ok(()));
     same(rt, heap.same(FIRST, 2, 1), Ok(true));
     same(rt, heap.same(FIRST, 2, 0), Ok(false));
@@ -80,7 +80,7 @@ fn compare(rt: &impl Abort, heap: &mut impl Mutating) {
 }
 
 /// The second thread loads both objects, by the global and by the first one's reference.
-fn load(rt: &impl Abort, heap: &mut impl Mutating) {
+fn load(rt: &impl Abort, heap: &mut impl Mutate) {
     same(rt, heap.store_global(FIRST, 0, 0), Ok(()));
     same(rt, heap.trap(SECOND), Err(Refusal::NotBusy));
     same(rt, heap.load_global(SECOND, 0, 0), Ok(()));

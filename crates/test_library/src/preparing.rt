@@ -2,7 +2,7 @@
 
 use crate::heaps::{Moving, fill_and_close, new_managed};
 use crate::same::same;
-use collecting::{Holding, Parts};
+use collecting::{Collect, Parts};
 use heap::Refusal;
 use std::alloc::{AllocError, Global};
 use std::process::Abort;
@@ -13,7 +13,7 @@ use std::test::Fail;
 fn collect(
     rt: &impl Abort,
     alloc: Global,
-    heap: &mut (impl Moving + Holding),
+    heap: &mut (impl Moving + Collect),
 ) -> Result<(bool, usize), Refusal> {
     let mut parts = Parts::new(alloc);
     let mut lacked = false;
@@ -39,7 +39,7 @@ fn collect(
 fn ends(
     rt: &impl Abort,
     alloc: Global,
-    mut heap: impl Moving + Holding + Drop,
+    mut heap: impl Moving + Collect + Drop,
 ) -> Result<(), Fail> {
     fill_and_close(&mut heap)??;
     let (lacked, most) = collect(rt, alloc, &mut heap)?;

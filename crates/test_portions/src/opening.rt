@@ -1,7 +1,7 @@
 //! Sharing heaps, and ending that.
 
 use crate::same::same;
-use collecting::Holding;
+use collecting::Collect;
 use managed::ManagedHeap;
 use model::Refusal;
 use portions::{MutatorCalls, Seats, SharedHeap, ThreadSeat};
@@ -36,7 +36,7 @@ fn seats_are_of_all_threads(rt: HostRuntime) -> Result<(), Fail> {
 }
 
 /// Thread 1 has an object of datum 9.
-fn make_before(alloc: Global, heap: &mut impl Holding) -> Result<(), Refusal> {
+fn make_before(alloc: Global, heap: &mut impl Collect) -> Result<(), Refusal> {
     heap.make(alloc, POLICY, 1, 0, CELL)?;
     heap.set_datum(1, 0, 0, 9)
 }
@@ -89,7 +89,7 @@ fn stays<R: Threads + Wait + Sync + Abort>(
 }
 
 /// Reads the datum after all threads were parked.
-fn read_after(heap: &mut impl Holding) -> Result<u64, Refusal> {
+fn read_after(heap: &mut impl Collect) -> Result<u64, Refusal> {
     heap.unpark(1)?;
     heap.datum(1, 0, 0)
 }
@@ -131,7 +131,7 @@ fn refused(alloc: Global, heap: ManagedHeap) -> Option<Refusal> {
 }
 
 /// A thread begins a load.
-fn begin_load(heap: &mut impl Holding) -> Result<(), Refusal> {
+fn begin_load(heap: &mut impl Collect) -> Result<(), Refusal> {
     heap.load_global(1, 0, 0)
 }
 

@@ -29,8 +29,10 @@ ghost use Rattle.typed.specs.Owning.{ChangesCounted, ChangesHeap, ChangesPaced, 
 use crate::calls::HeapCalls;
 use crate::numbers::{Datum, Field, GlobalNumber, LayoutNumber, Register, Thread};
 use crate::owning::TypedHeap;
-use collecting::{Collected, Counters, Counting, Holding, Object, Policy, PolicyFault, Target};
-use managed::{FieldLoad, LoadsFault, Mutating};
+use collecting::{
+    Collect, CollectCounted, Collected, Counters, Object, Policy, PolicyFault, Target,
+};
+use managed::{FieldLoad, LoadsFault, Mutate};
 use model::{Buffer, Refusal};
 use std::alloc::Global;
 

@@ -7,14 +7,14 @@ ghost use Rattle.typed.specs.Owning.{ChangesHeap};
 
 use crate::numbers::{Datum, Register, Thread};
 use crate::owning::TypedHeap;
-use collecting::Holding;
+use collecting::Collect;
 use model::Refusal;
 
 /// The calls that copy data words, and read and write them as bytes, with typed numbers. Each fails as the call of
-/// `Holding` that its comment names, and then writes nothing to an object.
+/// `Collect` that its comment names, and then writes nothing to an object.
 pub trait BulkCalls {
     /// Copies `count` data words of the source's object, from word `first_of_source` on, to the target's object, from
-    /// word `first` on, as `Holding::copy_data`. The two may be the same object, and overlap.
+    /// word `first` on, as `Collect::copy_data`. The two may be the same object, and overlap.
     fn copy_data(
         &mut self,
         thread: Thread,
@@ -25,7 +25,7 @@ pub trait BulkCalls {
         count: usize,
     ) -> Result<(), Refusal>;
 
-    /// Reads bytes of an object's data, from byte `offset` on, as `Holding::read_bytes`.
+    /// Reads bytes of an object's data, from byte `offset` on, as `Collect::read_bytes`.
     fn read_bytes(
         &self,
         thread: Thread,
@@ -34,7 +34,7 @@ pub trait BulkCalls {
         bytes: &mut [u8],
     ) -> Result<(), Refusal>;
 
-    /// Writes bytes of an object's data, from byte `offset` on, as `Holding::write_bytes`.
+    /// Writes bytes of an object's data, from byte `offset` on, as `Collect::write_bytes`.
     fn write_bytes(
         &mut self,
         thread: Thread,

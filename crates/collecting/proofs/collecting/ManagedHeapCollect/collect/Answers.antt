@@ -1,6 +1,6 @@
 use Rattle.collecting.proofs.Collections.{collecting_goes, unseen}
 use Rattle.collecting.proofs.NotRoom.{collecting_not}
-use Rattle.collecting.proofs.collecting.ManagedHeapHolding.collect.Goals as goal
+use Rattle.collecting.proofs.collecting.ManagedHeapCollect.collect.Goals as goal
 
 pub returns-clause-goes : goal.returns-clause-goes
 returns-clause-goes c = collecting_goes c.args.percent c.args.self.now c.collect_whole.new.heap

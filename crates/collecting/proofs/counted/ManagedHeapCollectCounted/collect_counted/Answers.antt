@@ -1,6 +1,6 @@
 use Rattle.collecting.proofs.Collections.{collecting_goes, unseen}
 use Rattle.collecting.proofs.NotRoom.{collecting_not}
-use Rattle.collecting.proofs.counted.ManagedHeapCounting.collect_counted.Goals as goal
+use Rattle.collecting.proofs.counted.ManagedHeapCollectCounted.collect_counted.Goals as goal
 
 pub returns-clause-goes : goal.returns-clause-goes
 returns-clause-goes c = collecting_goes c.args.percent c.args.self.now c.collect_counted-result.new.heap

@@ -14,7 +14,7 @@ use std::alloc::{AllocError, Global};
 use std::thread::Threads;
 
 /// Runs marks of a heap, and measures its pages. A mark returns how many objects live.
-pub(crate) trait Marking {
+pub(crate) trait Executor {
     // Holds if marks may be run, and pages measured: threads may share what they need.
     ghost may_mark: { Self → Type 0 } = { λ _. ⊤ };
 
@@ -42,7 +42,7 @@ pub(crate) trait Marking {
 #[derive(Clone, Copy, Debug)]
 pub(crate) struct Alone;
 
-impl Marking for Alone {
+impl Executor for Alone {
     fn mark(&self, heap: &mut ManagedHeap) -> Result<u64, Refusal> {
         heap.mark(0)
     }
@@ -63,7 +63,7 @@ pub(crate) struct OnThreads<'a, R> {
     pub threads: u32,
 }
 
-impl<'a, R: Threads + Sync> Marking for OnThreads<'a, R> {
+impl<'a, R: Threads + Sync> Executor for OnThreads<'a, R> {
     ghost may_mark = { λ _. IsSync R.row };
 
     fn mark(&self, heap: &mut ManagedHeap) -> Result<u64, Refusal> {

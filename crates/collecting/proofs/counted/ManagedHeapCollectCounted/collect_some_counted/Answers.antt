@@ -1,7 +1,7 @@
 use Rattle.collecting.proofs.Collections.{unseen}
 use Rattle.collecting.proofs.NotRoom.{part_not}
 use Rattle.collecting.proofs.Parted.{part_goes}
-use Rattle.collecting.proofs.counted.ManagedHeapCounting.collect_some_counted.Goals as goal
+use Rattle.collecting.proofs.counted.ManagedHeapCollectCounted.collect_some_counted.Goals as goal
 
 pub returns-clause-goes : goal.returns-clause-goes
 returns-clause-goes c = part_goes c.args.self.now c.part_counted-result.new.heap c.part_counted-result.result

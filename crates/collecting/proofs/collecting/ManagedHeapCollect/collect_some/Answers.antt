@@ -1,7 +1,7 @@
 use Rattle.collecting.proofs.Collections.{unseen}
 use Rattle.collecting.proofs.NotRoom.{part_not}
 use Rattle.collecting.proofs.Parted.{part_goes}
-use Rattle.collecting.proofs.collecting.ManagedHeapHolding.collect_some.Goals as goal
+use Rattle.collecting.proofs.collecting.ManagedHeapCollect.collect_some.Goals as goal
 
 pub returns-clause-goes : goal.returns-clause-goes
 returns-clause-goes c = part_goes c.args.self.now c.collect_some.new.heap c.collect_some.result

@@ -1,5 +1,5 @@
 use Rattle.collecting.proofs.Refilled.{making_stands}
-use Rattle.collecting.proofs.collecting.ManagedHeapHolding.make.Goals as goal
+use Rattle.collecting.proofs.collecting.ManagedHeapCollect.make.Goals as goal
 
 pub returns-clause-stands : goal.returns-clause-stands
 returns-clause-stands c = making_stands c.args.thread c.args.policy.words c.args.policy.percent c.args.target

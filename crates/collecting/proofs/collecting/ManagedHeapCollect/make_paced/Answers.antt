@@ -1,6 +1,6 @@
 use Rattle.collecting.proofs.Paced.{paced_making}
 use Rattle.collecting.proofs.Refilled.{making_stands}
-use Rattle.collecting.proofs.collecting.ManagedHeapHolding.make_paced.Goals as goal
+use Rattle.collecting.proofs.collecting.ManagedHeapCollect.make_paced.Goals as goal
 
 pub returns-clause-ends : goal.returns-clause-ends
 returns-clause-ends c = paced_making c.args.thread c.args.policy.words c.args.policy.percent c.args.policy.free

@@ -1,5 +1,5 @@
 use Rattle.collecting.proofs.Refilled.{refill_not, refills_unseen}
-use Rattle.collecting.proofs.counted.ManagedHeapCounting.refill_counted.Goals as goal
+use Rattle.collecting.proofs.counted.ManagedHeapCollectCounted.refill_counted.Goals as goal
 
 pub returns-clause-stands : goal.returns-clause-stands
 returns-clause-stands c = refills_unseen c.args.thread c.args.self.now c.refill_counted.new.heap
