@@ -2,12 +2,13 @@
 
 ghost use Rattle.std.specs.Prelude.{◌≡◌, ◌≢◌, ◌<◌, ◌≤◌, ◌+◌, ◌++◌, ◌∷◌, [], Some, length, slice_get};
 ghost use Rattle.std.specs.Prelude.{IfOk, IfSome, OnOk, MatchBool, MatchOption};
-ghost use Rattle.actor_entries.specs.Parts.{part_of};
-ghost use Rattle.actor_entries.specs.Passing.{HasPartTo, Passes};
+ghost use Rattle.entries.specs.Parts.{part_of};
+ghost use Rattle.entries.specs.Passing.{HasPartTo, Passes};
 
 use crate::actors::is_same;
+use crate::entry::Entry;
+use crate::history::History;
 use crate::steps::{again, are_same};
-use entries::{Entry, History};
 use model::Actor;
 use std::alloc::{AllocError, Global};
 

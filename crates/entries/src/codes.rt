@@ -1,7 +1,7 @@
 //! Codes of steps.
 
 ghost use Rattle.std.specs.Prelude.{◌≡◌, ◌≢◌, [], MatchBool};
-ghost use Rattle.actor_entries.specs.Codes.{Code, code_of, coded};
+ghost use Rattle.entries.specs.Codes.{Code, code_of, coded};
 
 use model::Step;
 

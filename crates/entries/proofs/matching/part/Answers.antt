@@ -1,6 +1,6 @@
 use Rattle.std.proofs.Common.{arith}
-use Rattle.actor_entries.proofs.Parts.{part_more}
-use Rattle.actor_entries.proofs.matching.part.Goals as goal
+use Rattle.entries.proofs.Parts.{part_more}
+use Rattle.entries.proofs.matching.part.Goals as goal
 
 pub loop-index-preserved : goal.loop-index-preserved
 loop-index-preserved c =

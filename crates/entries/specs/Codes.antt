@@ -2,7 +2,7 @@
 use Rattle.std.specs.Prelude.{ℕ, List, []}
 use Rattle.model.specs.declared.steps.Step.{Step}
 use Rattle.model.specs.declared.steps.Step.TheVariants as steps
-use Rattle.actor_entries.specs.declared.codes.Coded.{Coded}
+use Rattle.entries.specs.declared.codes.Coded.{Coded}
 
 pub record Code : Type 0 where
   pub kind : ℕ

@@ -1,7 +1,7 @@
 //! Comparing actors.
 
 ghost use Rattle.std.specs.Prelude.{◌≡◌};
-ghost use Rattle.actor_entries.specs.Parts.{is_before, is_same};
+ghost use Rattle.entries.specs.Parts.{is_before, is_same};
 
 use model::Actor;
 

@@ -6,7 +6,7 @@ use Rattle.std.proofs.lemmas.Bool.{eq-eqb, eqb-true}
 use Rattle.model.specs.declared.steps.Actor.{Actor}
 use Rattle.model.specs.declared.steps.Actor.TheVariants.{Thread, Worker}
 use Rattle.entries.specs.declared.entry.Entry.{Entry}
-use Rattle.actor_entries.specs.Parts.{is_same}
+use Rattle.entries.specs.Parts.{is_same}
 
 same_numbers : (m n : ℕ) → nat_eq m n ≡ true → m ≡ n
 same_numbers = eqb-true

@@ -1,8 +1,8 @@
 use Rattle.std.proofs.Common.{Some, ap, sym, ◌∙◌}
 use Rattle.std.specs.Option.{option_map}
 use Rattle.entries.specs.Histories.{entry_of}
-use Rattle.actor_entries.proofs.Parts.{passes_at}
-use Rattle.actor_entries.proofs.matching.next_place.Goals as goal
+use Rattle.entries.proofs.Parts.{passes_at}
+use Rattle.entries.proofs.matching.next_place.Goals as goal
 
 pub returns : goal.returns
 returns c =

@@ -8,8 +8,8 @@ use Rattle.std.proofs.lemmas.List.Elements.{filter-append}
 use Rattle.std.proofs.lemmas.Option.{slice_get_within, get_or_from_slice_get}
 use Rattle.model.specs.declared.steps.Actor.{Actor}
 use Rattle.entries.specs.declared.entry.Entry.{Entry}
-use Rattle.actor_entries.specs.Parts.{is_same, part_of}
-use Rattle.actor_entries.specs.Passing.{HasPartTo, Passes}
+use Rattle.entries.specs.Parts.{is_same, part_of}
+use Rattle.entries.specs.Passing.{HasPartTo, Passes}
 
 seam : (xs : List Entry) (e : Entry) (ys : List Entry) → slice_get (xs ++ e ∷ ys) (length xs) ≡ Some e
 seam [] e ys = refl

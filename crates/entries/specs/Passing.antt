@@ -3,7 +3,7 @@ use Rattle.std.specs.Prelude.{◌≡◌, ◌≢◌, ◌≤◌, ◌+◌, ◌⊎�
 use Rattle.std.specs.Prelude.{slice_get}
 use Rattle.model.specs.declared.steps.Actor.{Actor}
 use Rattle.entries.specs.declared.entry.Entry.{Entry}
-use Rattle.actor_entries.specs.Parts.{is_same, part_of}
+use Rattle.entries.specs.Parts.{is_same, part_of}
 
 -- a list begins with the actor's entries among the first i of a history, and these are n
 abbrev pub HasPartTo : List Entry → ℕ → Actor → List Entry → ℕ → Type 0

@@ -2,7 +2,7 @@
 use Rattle.std.proofs.Common.{◌≡◌, ◌≢◌, List, [], ◌∷◌, get_or, refl, sym, ap, ◌∙◌}
 use Rattle.model.specs.declared.steps.Step.{Step}
 use Rattle.model.specs.declared.steps.Step.TheVariants as steps
-use Rattle.actor_entries.specs.Codes.{Code, code_of}
+use Rattle.entries.specs.Codes.{Code, code_of}
 
 -- the steps that have these numbers and this list, by their kinds
 abbrev steps_with : Code → List Step
