@@ -2,7 +2,7 @@
 use Rattle.std.proofs.Common.{◌≡◌}
 use Rattle.cycle.specs.Books.{BookState}
 use Rattle.cycle.specs.Replays.{IsBook}
-use Rattle.soundness.specs.Laws.{ImagesSound}
+use Rattle.heap_images.specs.Laws.{ImagesSound}
 use Rattle.verify.specs.Faults.{OneVerdict, VerdictIs}
 use Rattle.verify.specs.Pictures.{image_of}
 use Rattle.verify.specs.declared.verdict.Verdict.{Verdict}

@@ -43,7 +43,7 @@ pub fn verify_book(alloc: Global, book: &Book) -> Result<Verdict, AllocError>
     ensures sound { IfOk result (λ verdict. verdict ≡ Sound) }
 {
     book.law();
-    soundness::law();
+    heap_images::law();
     one_verdict();
     verify(alloc, book.heap())
 }

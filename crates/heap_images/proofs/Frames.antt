@@ -18,8 +18,8 @@ use Rattle.verify.specs.Images.{PageData}
 use Rattle.verify.specs.Soundness.{is_filled, is_frame, is_sized, has_words, owners_in, times_in, as_number, may_be_free}
 use Rattle.verify.specs.Soundness.{HasItsFrame, HasFrames}
 use Rattle.verify.specs.Pictures.{image_of, page_data, pages_of, is_free, free_of}
-use Rattle.soundness.proofs.Lists.{numbered, mapped_first, count_none, count_one}
-use Rattle.soundness.proofs.Lists.{filtered_passes, once_filtered, never_filtered}
+use Rattle.heap_images.proofs.Lists.{numbered, mapped_first, count_none, count_one}
+use Rattle.heap_images.proofs.Lists.{filtered_passes, once_filtered, never_filtered}
 
 -- free frames
 

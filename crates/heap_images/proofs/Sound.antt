@@ -16,12 +16,12 @@ use Rattle.refinement.proofs.Objects.{there}
 use Rattle.verify.specs.Images.{field, is_copied}
 use Rattle.verify.specs.Soundness.{IsGood, IsReached, IsSound, AreTwins}
 use Rattle.verify.specs.Pictures.{image_of}
-use Rattle.soundness.proofs.Pages.{page_of_words}
-use Rattle.soundness.proofs.Copies.{copied_not}
-use Rattle.soundness.proofs.Objects.{object_from}
-use Rattle.soundness.proofs.Frames.{has_frames}
-use Rattle.soundness.proofs.Leading.{leads_as_named, field_there}
-use Rattle.soundness.proofs.Roots.{of_root}
+use Rattle.heap_images.proofs.Pages.{page_of_words}
+use Rattle.heap_images.proofs.Copies.{copied_not}
+use Rattle.heap_images.proofs.Objects.{object_from}
+use Rattle.heap_images.proofs.Frames.{has_frames}
+use Rattle.heap_images.proofs.Leading.{leads_as_named, field_there}
+use Rattle.heap_images.proofs.Roots.{of_root}
 
 -- a current object is at an address, and the reference model has its birth
 record IsAnchored (h : HeapState) (p : PlainHeap) (a : ℕ) : Type 0 where

@@ -14,7 +14,7 @@ use Rattle.laws.specs.AddressHeap.{resolve as world_resolve}
 use Rattle.refinement.specs.Worlds.{world_of, entry_at, entry_of, object_at as world_object}
 use Rattle.verify.specs.Images.{copy_in, copy_of, copy_on, if_protected, is_copied, page_at, resolve}
 use Rattle.verify.specs.Pictures.{image_of, page_data}
-use Rattle.soundness.proofs.Pages.{page_is, pictured}
+use Rattle.heap_images.proofs.Pages.{page_is, pictured}
 
 -- the address to which an entry's object was copied
 abbrev copied_to : SideEntry → Option ℕ

@@ -11,7 +11,7 @@ use Rattle.model.specs.Stores.{word_at as store_word, word_in, at_offset, spot_o
 use Rattle.model.specs.States.{HeapState}
 use Rattle.verify.specs.Images.{◌>>=◌, PageData, page_at, word_at}
 use Rattle.verify.specs.Pictures.{image_of, page_data, pages_of}
-use Rattle.soundness.proofs.Lists.{numbered}
+use Rattle.heap_images.proofs.Lists.{numbered}
 
 -- the image of page n, if the page exists
 abbrev pub pictured : HeapState → ℕ → Option Page → Option PageData

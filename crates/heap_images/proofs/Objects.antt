@@ -26,8 +26,8 @@ use Rattle.refinement.proofs.ObjectWords.{read_refs}
 use Rattle.verify.specs.Images.{ImageData, page_at, word_at, starts_on, object_in, object_at}
 use Rattle.verify.specs.Pictures.{image_of}
 use Rattle.verify.specs.Soundness.{IsBirthAt}
-use Rattle.soundness.proofs.Lists.{found_first, mapped_first, tested}
-use Rattle.soundness.proofs.Pages.{page_is, pictured, word_is, page_of_words}
+use Rattle.heap_images.proofs.Lists.{found_first, mapped_first, tested}
+use Rattle.heap_images.proofs.Pages.{page_is, pictured, word_is, page_of_words}
 
 -- addresses
 

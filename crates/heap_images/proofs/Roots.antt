@@ -20,7 +20,7 @@ use Rattle.verify.specs.declared.verdict.Root.{Root}
 use Rattle.verify.specs.declared.verdict.Root.TheVariants as roots
 use Rattle.verify.specs.Soundness.{root_value}
 use Rattle.verify.specs.Pictures.{image_of, registers_of, load_of}
-use Rattle.soundness.proofs.Lists.{found_first, mapped_first, mapped_from}
+use Rattle.heap_images.proofs.Lists.{found_first, mapped_first, mapped_from}
 
 -- a number represents a birth, or none; and the birth, if it is one, is in a root of the reference model
 pub record IsRootNumber (h : HeapState) (p : PlainHeap) (v : ℕ) : Type 0 where

@@ -17,10 +17,10 @@ use Rattle.refinement.specs.Standing.{Holds}
 use Rattle.refinement.proofs.Loads.{field_is, none_at_zero}
 use Rattle.verify.specs.Images.{leads, word_leads, start_found, object_at, field, word_at}
 use Rattle.verify.specs.Pictures.{image_of}
-use Rattle.soundness.proofs.Lists.{tested}
-use Rattle.soundness.proofs.Pages.{word_is}
-use Rattle.soundness.proofs.Copies.{resolve_is}
-use Rattle.soundness.proofs.Objects.{object_to}
+use Rattle.heap_images.proofs.Lists.{tested}
+use Rattle.heap_images.proofs.Pages.{word_is}
+use Rattle.heap_images.proofs.Copies.{resolve_is}
+use Rattle.heap_images.proofs.Objects.{object_to}
 
 -- a number in memory that represents x leads to nothing if x is no birth, else to the birth's current object
 pub record Leads (h : HeapState) (v : ℕ) (x : Option ℕ) : Type 0 where
