@@ -15,8 +15,8 @@ use Rattle.model.proofs.Lists.{get_within}
 use Rattle.model.proofs.Memory.{page_record}
 use Rattle.refinement.proofs.Granted.{page_here}
 use Rattle.verify.specs.Images.{PageData}
-use Rattle.verify.specs.Soundness.{is_filled, is_frame, is_sized, has_words, owners_in, times_in, as_number, may_be_free}
-use Rattle.verify.specs.Soundness.{HasItsFrame, HasFrames}
+use Rattle.verify.specs.Soundness.{is_filled, is_frame, is_sized, has_words, owners_in, times_in, as_number}
+use Rattle.verify.specs.Soundness.{may_be_free, HasItsFrame, HasFrames}
 use Rattle.verify.specs.Pictures.{image_of, page_data, pages_of, is_free, free_of}
 use Rattle.heap_images.proofs.Lists.{numbered, mapped_first, count_none, count_one}
 use Rattle.heap_images.proofs.Lists.{filtered_passes, once_filtered, never_filtered}
@@ -128,7 +128,8 @@ module _ (h : HeapState) (s : IsStore h.store) (d : IsHeap h) where
       by_frame (Some f) z = sized_frame f (Some (j + 1)) (owner_of f j y e (ap (is_frame f) z ∙ eq-eqb f f refl))
 
   free : Each (free_of h.store) (λ f. may_be_free h.store.frames h.store.words f ≡ true)
-  free j f e = ap (λ b. b || has_words h.store.frames h.store.words f) (sized_frame f None (no_owner (slice_get h.store.owners f)
+  free j f e = ap (λ b. b || has_words h.store.frames h.store.words f) (sized_frame f None
+      (no_owner (slice_get h.store.owners f)
       (filtered_passes (λ f. is_free (slice_get h.store.owners f)) (range_with_len 0 (length h.store.owners)) j f e)))
 
   -- the frames of a heap's image are in order
