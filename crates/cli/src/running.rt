@@ -10,8 +10,7 @@ ghost use Rattle.script.specs.Output.{output_text};
 ghost use Rattle.cli.specs.Running.{HasFault, HoldsScript, IsNoScript, Prints, ReadsUpTo, fault_status};
 
 use crate::asking::Asked;
-use script::{MOST_BYTES, ParseFault, RunFault, Script, by_schedule, parse};
-use script_check::{Checked, by_check};
+use script::{Checked, MOST_BYTES, ParseFault, RunFault, Script, by_check, by_schedule, parse};
 use std::alloc::Global;
 use std::io;
 use std::io::{BufWriter, Read as _, Write as _};

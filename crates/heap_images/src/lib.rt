@@ -1,10 +1,15 @@
-//! Images of heaps: a heap's image is taken, and verified. `verify`, which knows nothing of heaps, defines images and
-//! when one is sound.
+//! The verifier, applied to a heap: takes the heap's image, verifies it, and proves that it is sound.
+//!
+//! The verifier (`verify`) knows nothing of the collector: an image is memory and roots as plain data, and soundness
+//! is defined for any data. The collector's own invariant (`refinement`, `laws`) is about the state of a heap. This
+//! crate alone knows both: a state that represents a reference model has an image in which the verifier finds no
+//! fault.
 #![tactic(auto)]
 
 mod taking;
 
 ghost use Rattle.std.specs.Prelude.{IfOk};
+ghost use Rattle.heap_images.specs.Laws.{ImagesSound};
 ghost use Rattle.verify.specs.Faults.{VerdictIs};
 ghost use Rattle.verify.specs.Pictures.{image_of};
 
@@ -21,3 +26,10 @@ pub fn verify(alloc: Global, heap: &Heap) -> Result<Verdict, AllocError>
     let image = image_of(alloc, heap)?;
     verify_image(alloc, &image)
 }
+
+/// The image of a heap that represents a reference model is sound. This holds for every state with `IsStore` and
+/// `IsHeap`, the invariants of all heaps, in each phase of the collector. There is no code here: a function that needs
+/// this calls it.
+pub fn law()
+    ensures { ImagesSound }
+{}

@@ -1,2 +1,4 @@
+pub mod Leading
+pub mod Listing
 pub mod Telling
 pub mod Copied

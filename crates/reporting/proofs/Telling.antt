@@ -9,9 +9,9 @@ use Rattle.std.proofs.lemmas.Option.{slice_get-get_or}
 use Rattle.model.specs.declared.steps.Answer.{Answer}
 use Rattle.std.specs.Io.KnownBytes.{Appends}
 use Rattle.entries.specs.declared.entry.Entry.{Entry}
-use Rattle.wording.specs.Texts.{Leads}
-use Rattle.wording.proofs.Leading.{leads_step, leads_end}
-use Rattle.wording.specs.Reports.{texts_from}
+use Rattle.reporting.specs.Texts.{Leads}
+use Rattle.reporting.proofs.Leading.{leads_step, leads_end}
+use Rattle.reporting.specs.Lines.{texts_from}
 use Rattle.reporting.specs.Reports.{cycles_from, cycle_line, next_cycle}
 
 split : {X : Type 0} (xs : List X) (i : ℕ) (d : X) → i < length xs → drop i xs ≡ get_or xs i d ∷ drop (i + 1) xs

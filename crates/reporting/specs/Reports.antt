@@ -9,11 +9,11 @@ use Rattle.model.specs.declared.records.Page.{Page}
 use Rattle.model.specs.States.{HeapState, ThreadState}
 use Rattle.model.specs.Stores.{is_protected, is_unused}
 use Rattle.entries.specs.declared.entry.Entry.{Entry}
-use Rattle.wording.specs.declared.records.Copies.{Copies}
-use Rattle.wording.specs.declared.report.Activity.{Activity}
-use Rattle.wording.specs.declared.report.Activity.TheVariants as activities
-use Rattle.wording.specs.Reports.{texts_from}
-use Rattle.wording.specs.Reports as lines
+use Rattle.reporting.specs.declared.wording.records.Copies.{Copies}
+use Rattle.reporting.specs.declared.wording.report.Activity.{Activity}
+use Rattle.reporting.specs.declared.wording.report.Activity.TheVariants as activities
+use Rattle.reporting.specs.Lines.{texts_from}
+use Rattle.reporting.specs.Lines as lines
 
 -- a line and its newline
 abbrev pub with_newline : List ℕ → List ℕ

@@ -4,13 +4,17 @@ ghost use Rattle.std.specs.Prelude.{◌≡◌, ◌++◌, ◌∷◌, [], IfSome, 
 ghost use Rattle.std.specs.Prelude.{IfErr, slice_get};
 ghost use Rattle.std.specs.Io.KnownBytes.{Appends};
 ghost use Rattle.model.specs.Stores.{is_protected, is_unused};
-ghost use Rattle.wording.specs.Reports.{texts_from};
+ghost use Rattle.reporting.specs.Lines.{texts_from};
 ghost use Rattle.reporting.specs.Reports.{head_line, page_line, thread_line, global_line, barrier_line, cycle_line};
 ghost use Rattle.reporting.specs.Reports.{cycles_from, next_cycle, bits_in, copied_in, copies_in, copies_of};
 ghost use Rattle.reporting.specs.Reports.{activity_of};
 ghost use Rattle.reporting.specs.declared.fault.ReportFault.TheVariants.{Write};
 
 use crate::fault::ReportFault;
+use crate::wording::{
+    Activity, BarrierLine, Copies, CycleLine, GlobalLine, HeadLine, PageLine, RegistersText,
+    ThreadLine, WordText,
+};
 use entries::History;
 use forward::{Side, Sides};
 use heap::{Heap, Rows, Thread};
@@ -18,10 +22,6 @@ use model::{Answer, Global, Page, PageState};
 use std::alloc::AllocError;
 use std::fmt::{Display, Write as _};
 use std::io;
-use wording::{
-    Activity, BarrierLine, Copies, CycleLine, GlobalLine, HeadLine, PageLine, RegistersText,
-    ThreadLine, WordText,
-};
 
 /// Writes a text. Fails with `Write` if the writer fails.
 pub fn tell<W: io::Write>(w: &mut W, text: &String) -> Result<(), ReportFault>

@@ -9,8 +9,8 @@ use Rattle.std.specs.Io.KnownBytes.{Appends}
 use Rattle.entries.specs.declared.entry.Entry.{Entry}
 use Rattle.cycle.specs.Books.{BookState, Reply}
 use Rattle.parser.specs.declared.order.Command.{Command}
-use Rattle.wording.specs.Texts.{Leads}
-use Rattle.wording.proofs.Leading.{leads_step, leads_end}
+use Rattle.reporting.specs.Texts.{Leads}
+use Rattle.reporting.proofs.Leading.{leads_step, leads_end}
 use Rattle.script.specs.Output.{lines_text, command_line, book_after, done}
 
 split : {X : Type 0} (xs : List X) (i : ℕ) (d : X) → i < length xs → drop i xs ≡ get_or xs i d ∷ drop (i + 1) xs

@@ -14,7 +14,7 @@ use Rattle.parser.specs.Orders.{step_of, then_of}
 use Rattle.parser.specs.Reading.{ScriptValue}
 use Rattle.parser.specs.Spelling.{with_newline}
 use Rattle.reporting.specs.Reports.{report_text}
-use Rattle.wording.specs.Texts.{line_text, drained_line}
+use Rattle.reporting.specs.Texts.{line_text, drained_line}
 
 -- the commands
 

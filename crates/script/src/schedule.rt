@@ -16,9 +16,9 @@ use cycle::{Book, verdict};
 use heap::NewFault;
 use model::{Actor, Answer, Refusal};
 use parser::{Command, Script, Then};
+use reporting::{put_drained, put_line};
 use std::alloc::{AllocError, Global};
 use std::io;
-use wording::{put_drained, put_line};
 
 /// Appends the line of a drain to a text: how many steps were done, or the error that ended it.
 fn put_drain(

@@ -3,9 +3,9 @@
 use crate::pages::{put_address, put_word};
 use heap::{Heap, Thread};
 use model::{Barrier, Place, Scan};
+use reporting::BitText;
 use std::alloc::AllocError;
 use std::fmt::Write as _;
-use wording::BitText;
 
 /// Appends the place from which a load has its reference.
 fn put_place(heap: &Heap, place: Place, text: &mut String) -> Result<(), AllocError> {

@@ -6,11 +6,11 @@ use crate::steps::put_step;
 use anyhow::{Result, bail};
 use cycle::{Actor, MOST_TRAPS, Reply, Step, is_clear, next_drain};
 use model::Refusal;
+use reporting::ReplyText;
 use script::{Command, Then, tell};
 use std::alloc::{AllocError, Global};
 use std::fmt::Write as _;
 use std::io;
-use wording::ReplyText;
 
 /// What is written of a command's steps, and their replies.
 #[derive(Drop)]

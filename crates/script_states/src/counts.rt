@@ -4,9 +4,9 @@ use forward::Side;
 use heap::{Heap, Row};
 use layout::layout_of;
 use model::{Page, PageState};
+use reporting::{BitText, PhaseText};
 use std::alloc::AllocError;
 use std::fmt::Write as _;
-use wording::{BitText, PhaseText};
 
 /// How many pages are in each state, how many words of those with memory were allocated in buffers or are the targets
 /// of copies, and how many words the live objects have.

@@ -5,9 +5,9 @@ use heap::{Heap, Row, read_reference};
 use layout::{Header, Layout};
 use model::Forwarding;
 use refword::Addr;
+use reporting::{BitText, WordText};
 use std::alloc::AllocError;
 use std::fmt::Write as _;
-use wording::{BitText, WordText};
 
 /// Returns whether a bitmap has a bit at an offset.
 fn bit(row: Option<&Row>, offset: usize) -> BitText {

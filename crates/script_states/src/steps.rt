@@ -2,9 +2,9 @@
 
 use model::{Actor, Step};
 use parser::{Command, Order, Verb};
+use reporting::ActorText;
 use std::alloc::{AllocError, Global};
 use std::fmt::Write as _;
-use wording::ActorText;
 
 /// Appends the step of a thread on its buffer, its registers or its data.
 fn put_own(text: &mut String, step: &Step) -> Result<(), AllocError> {

@@ -4,8 +4,8 @@ use Rattle.std.proofs.Common.{refl, subst, add-one, drop-cons}
 use Rattle.std.proofs.lemmas.List.{drop_all}
 use Rattle.std.specs.List.{flat_map}
 use Rattle.std.specs.Io.KnownBytes.{Appends}
-use Rattle.wording.specs.Texts.{Leads}
-use Rattle.wording.proofs.Leading.{leads_step, leads_end}
+use Rattle.reporting.specs.Texts.{Leads}
+use Rattle.reporting.proofs.Leading.{leads_step, leads_end}
 
 -- the first of the remaining texts
 next_text : {X : Type 0} (f : X → List ℕ) (i : ℕ) (xs : List X) (d : X) → i < length xs

@@ -8,7 +8,7 @@ use Rattle.model.specs.declared.steps.Answer.{Answer}
 use Rattle.model.specs.declared.steps.Answer.TheVariants as answers
 use Rattle.entries.specs.declared.entry.Entry.{Entry}
 use Rattle.sharing.specs.Seats.{SeatState}
-use Rattle.wording.specs.Texts.{actor_text}
+use Rattle.reporting.specs.Texts.{actor_text}
 
 -- a birth counts 1
 abbrev pub birth_of : Answer → ℕ

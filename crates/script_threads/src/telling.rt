@@ -6,9 +6,9 @@ ghost use Rattle.script_threads.specs.Settled.{seat_text, seats_text, settled_te
 
 use crate::sums::{SumsLine, add_up};
 use model::Actor;
+use reporting::ActorText;
 use sharing::{Seat, Settled};
 use std::io;
-use wording::ActorText;
 
 /// Writes the line of a stray actor, as `stray t0`. Fails only if the writer fails.
 pub fn tell_stray<W: io::Write>(actor: Actor, w: &mut W) -> io::Result<()>

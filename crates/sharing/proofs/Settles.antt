@@ -12,7 +12,7 @@ use Rattle.std.proofs.Math.Seq.{get_or-append_seam}
 use Rattle.model.specs.declared.steps.Actor.{Actor}
 use Rattle.model.specs.declared.steps.Actor.TheVariants as actors
 use Rattle.entries.specs.declared.entry.Entry.{Entry}
-use Rattle.actor_entries.specs.Parts.{is_before, part_of}
+use Rattle.entries.specs.Parts.{is_before, part_of}
 use Rattle.sharing.specs.Seats.{Agrees, HasPart, SeatState, of_actor}
 use Rattle.sharing.specs.Settling.{IsFirstNot, earlier, noted}
 

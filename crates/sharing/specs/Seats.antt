@@ -6,7 +6,7 @@ use Rattle.model.specs.declared.steps.Actor.TheVariants.{Thread, Worker}
 use Rattle.model.specs.declared.steps.Step.{Step}
 use Rattle.entries.specs.declared.entry.Entry.{Entry}
 use Rattle.cycle.specs.Books.{BookState, Reply}
-use Rattle.actor_entries.specs.Parts.{is_same, part_of}
+use Rattle.entries.specs.Parts.{is_same, part_of}
 
 -- a seat: its actor, and the actor's accepted steps with their answers, oldest first
 pub record SeatState : Type 0 where

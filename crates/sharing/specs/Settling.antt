@@ -1,7 +1,7 @@
 -- The first actor that fails a test.
 use Rattle.std.specs.Prelude.{◌≡◌, Bool, true, false, Option, Some, None, if◌then◌else◌}
 use Rattle.model.specs.declared.steps.Actor.{Actor}
-use Rattle.actor_entries.specs.Parts.{is_before}
+use Rattle.entries.specs.Parts.{is_before}
 
 -- none, or the first actor for whom a property fails
 abbrev pub IsFirstNot : (Actor → Type 0) → Option Actor → Type 0

@@ -6,8 +6,8 @@ ghost use Rattle.model.specs.declared.steps.Actor.TheVariants.{Thread, Worker};
 ghost use Rattle.sharing.specs.Seats.{seat_from, seats_of};
 
 use crate::seat::Seat;
-use actor_entries::part;
 use cycle::{Actor, Book, History};
+use entries::part;
 use std::alloc::{AllocError, Global};
 
 /// Returns a seat of an actor, whose list is the actor's part of the history. Fails only if out of memory.

@@ -9,8 +9,8 @@ ghost use Rattle.sharing.specs.Portions.{Drains, DrainsSome};
 ghost use Rattle.sharing.specs.Seats.{Notes};
 
 use crate::steps::Steps;
-use actor_entries::again;
 use cycle::{Actor, Book, History, PieceGate, Reply, Step, next_drain};
+use entries::again;
 use model::Refusal;
 use std::alloc::Global;
 use std::marker::Model;

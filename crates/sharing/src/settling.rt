@@ -2,13 +2,13 @@
 
 ghost use Rattle.std.specs.Prelude.{◌≡◌, ◌==◌, true, IfErr, IfOk, length};
 ghost use Rattle.model.specs.declared.steps.Actor.{Actor};
-ghost use Rattle.actor_entries.specs.Parts.{is_before};
+ghost use Rattle.entries.specs.Parts.{is_before};
 ghost use Rattle.sharing.specs.Seats.{Agrees, AreSettled, HasPart, of_actor};
 ghost use Rattle.sharing.specs.Settling.{IsFirstNot, earlier, noted};
 
 use crate::seat::Seat;
-use actor_entries::{actor_at, is_before, is_part, is_same};
 use cycle::{Actor, Book, History};
+use entries::{actor_at, is_before, is_part, is_same};
 
 /// A recorded heap and the seats of its actors, which agree.
 #[derive(Drop)]

@@ -4,7 +4,7 @@
 use cycle::Stepping;
 use heap::Heap;
 use pauseless::{Actor, Book, Reply, Step, Verdict, verify};
-use script_check::verify_book;
+use script::verify_book;
 use std::alloc::{AllocError, Global};
 
 /// A heap that is driven, or a recorded heap.

@@ -3,8 +3,8 @@
 
 use crate::same::same;
 use model::{PageState, Refusal};
+use reporting::PageStateText;
 use std::test::Fail;
-use wording::PageStateText;
 
 #[test]
 fn refusals(rt: HostRuntime) -> Result<(), Fail> {

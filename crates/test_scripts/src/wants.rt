@@ -4,8 +4,7 @@
 
 use crate::same::same;
 use parser::{ParseFault, Script, parse};
-use script::{RunFault, by_schedule};
-use script_check::by_check;
+use script::{RunFault, by_check, by_schedule};
 use std::alloc::Global;
 use std::process::Abort;
 use std::test::Fail;

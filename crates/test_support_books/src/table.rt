@@ -1,8 +1,8 @@
 //! Shared recorded heaps with all their seats.
 
 use crate::opened::book_of;
-use actor_entries::is_same;
 use cycle::{Actor, Book, History, Reply};
+use entries::is_same;
 use heap::Heap;
 use parser::{Command, Script, Verb};
 use sharing::{Seat, Shared, settle};

@@ -6,7 +6,7 @@ use heap::NewFault;
 use heap_images::{image_of, verify};
 use layout::{Layout, Layouts};
 use model::{Config, PageList, Refusal};
-use script_check::{FaultText, verify_book};
+use script::{FaultText, verify_book};
 use std::alloc::{AllocError, Global};
 use std::fmt::{Display, Write as _};
 use std::process::Abort;

@@ -5,7 +5,7 @@ use Rattle.model.specs.Holding.{IsHeap}
 use Rattle.model.specs.Owning.{IsStore}
 use Rattle.model.specs.States.{HeapState}
 use Rattle.managed.specs.Managing.{Promises}
-use Rattle.soundness.specs.Laws.{ImagesSound}
+use Rattle.heap_images.specs.Laws.{ImagesSound}
 use Rattle.verify.specs.declared.verdict.Verdict.{Verdict}
 use Rattle.verify.specs.declared.verdict.Verdict.TheVariants.{Sound}
 use Rattle.verify.specs.Faults.{VerdictIs, OneVerdict}

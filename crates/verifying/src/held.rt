@@ -18,7 +18,7 @@ pub fn verify_held(alloc: Global, heap: &ManagedHeap) -> Result<Verdict, AllocEr
 {
     heap.law();
     heap.heap().law();
-    soundness::law();
+    heap_images::law();
     one_verdict();
     verify(alloc, heap.heap())
 }

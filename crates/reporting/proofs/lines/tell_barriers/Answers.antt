@@ -1,6 +1,6 @@
 use Rattle.std.proofs.Common.{subst}
 use Rattle.std.specs.Io.KnownBytes.{Appends}
-use Rattle.wording.specs.Reports.{texts_from}
+use Rattle.reporting.specs.Lines.{texts_from}
 use Rattle.reporting.specs.Reports.{barrier_line}
 use Rattle.reporting.proofs.Telling.{told_item, told_end}
 use Rattle.reporting.proofs.lines.tell_barriers.Goals as goal

@@ -1,6 +1,6 @@
 use Rattle.std.proofs.Common.{drop}
-use Rattle.wording.specs.Texts.{Leads}
-use Rattle.wording.specs.Reports.{texts_from}
+use Rattle.reporting.specs.Texts.{Leads}
+use Rattle.reporting.specs.Lines.{texts_from}
 use Rattle.reporting.specs.Reports.{barrier_line}
 use Rattle.reporting.proofs.lines.tell_barriers.Given as goal
 

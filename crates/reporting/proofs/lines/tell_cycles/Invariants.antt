@@ -1,5 +1,5 @@
 use Rattle.std.proofs.Common.{◌≤◌, ◌+◌, drop}
-use Rattle.wording.specs.Texts.{Leads}
+use Rattle.reporting.specs.Texts.{Leads}
 use Rattle.reporting.specs.Reports.{cycles_from}
 use Rattle.reporting.proofs.lines.tell_cycles.Given as goal
 

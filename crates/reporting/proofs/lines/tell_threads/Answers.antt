@@ -1,7 +1,7 @@
 use Rattle.std.proofs.Common.{ap, ◌∙◌, subst}
 use Rattle.std.specs.Io.KnownBytes.{Appends}
 use Rattle.model.specs.Stores.{StoreState}
-use Rattle.wording.specs.Reports.{texts_from}
+use Rattle.reporting.specs.Lines.{texts_from}
 use Rattle.reporting.specs.Reports.{thread_line}
 use Rattle.reporting.proofs.Telling.{told_item, told_end}
 use Rattle.reporting.proofs.lines.tell_threads.Goals as goal

@@ -1,5 +1,5 @@
 use Rattle.std.proofs.Common.{◌≡◌, ◌+◌, drop}
-use Rattle.wording.specs.Texts.{Leads}
+use Rattle.reporting.specs.Texts.{Leads}
 use Rattle.script.specs.Output.{lines_text, book_after}
 use Rattle.script.proofs.schedule.tell_commands.Given as goal
 

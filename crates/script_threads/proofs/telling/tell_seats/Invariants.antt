@@ -1,6 +1,6 @@
 use Rattle.std.proofs.Common.{drop}
 use Rattle.std.specs.List.{flat_map}
-use Rattle.wording.specs.Texts.{Leads}
+use Rattle.reporting.specs.Texts.{Leads}
 use Rattle.script_threads.specs.Settled.{seat_text}
 use Rattle.script_threads.proofs.telling.tell_seats.Given as goal
 

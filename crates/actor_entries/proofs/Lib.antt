@@ -1,3 +1,0 @@
-pub mod OneCode
-pub mod Entries
-pub mod Parts

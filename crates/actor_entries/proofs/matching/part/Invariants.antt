@@ -1,6 +1,0 @@
-use Rattle.std.proofs.Common.{◌≡◌, take}
-use Rattle.actor_entries.specs.Parts.{part_of}
-use Rattle.actor_entries.proofs.matching.part.Given as goal
-
-abbrev pub invariant-loop-index : goal.invariant-loop-index
-invariant-loop-index l = l.list.entries ≡ part_of l.actor (take l.index l.history.entries)

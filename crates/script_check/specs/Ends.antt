@@ -1,8 +1,0 @@
--- The results of runs in which the heap is verified.
-use Rattle.script_check.specs.declared.schedule.Checked.{Checked}
-use Rattle.script_check.specs.declared.schedule.Checked.TheVariants.{Sound, Faulty}
-
--- no verification found a fault
-abbrev pub IsClean : Checked → Type 0
-IsClean (Sound count) = Unit {0}
-IsClean (Faulty fault) = ⊥
