@@ -63,7 +63,7 @@ fn next_block(
     full.reserve(1)?;
     let next = Vec::with_capacity(*last.allocator(), BLOCK)?;
     let block = replace(last, next);
-    let _ = full.push(block);
+    full.push_reserved(block);
     Ok(())
 }
 
@@ -131,7 +131,7 @@ impl Blocks {
         requires { self.old.has_room ≡ true }
         ensures { self.new.items ≡ self.old.items ++ kept ∷ [] }
     {
-        let _ = self.last.push(kept);
+        self.last.push_reserved(kept);
         self.count += 1;
     }
 }

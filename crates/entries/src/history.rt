@@ -57,7 +57,7 @@ fn enter_whole(whole: &mut Vec<Entry, Global>, entry: Entry)
     requires { vec_len whole.old < vec_capacity whole.old }
     ensures { whole.new.items ≡ whole.old.items ++ entry ∷ [] }
 {
-    let _ = whole.push(entry);
+    whole.push_reserved(entry);
 }
 
 impl History {
