@@ -1,6 +1,6 @@
 -- Actors and complete orders: what is read is spelled so, and what is spelled so is read.
-use Rattle.std.proofs.Common.{◌≡◌, ℕ, Bool, true, false, cond, List, [], ◌∷◌, ◌++◌}
-use Rattle.std.proofs.Common.{Some, refl, sym, ap, subst, ◌∙◌, arith, inl, inr, append-nil}
+use Rattle.std.proofs.Common.{◌≡◌, ℕ, Bool, true, false, cond, List, [], ◌∷◌}
+use Rattle.std.proofs.Common.{Some, refl, sym, ap, subst, ◌∙◌, arith}
 use Rattle.std.specs.Prelude.{Ok, ◌==◌, find, Option, None}
 use Rattle.std.specs.Str.{bytes_eq}
 use Rattle.std.specs.Fmt.{decimal}
@@ -10,21 +10,20 @@ use Rattle.std.proofs.lemmas.Slice.Eq.{bytes_eq-Decides}
 use Rattle.std.proofs.lemmas.Option.{same_Some}
 use Rattle.model.specs.declared.steps.Actor.{Actor}
 use Rattle.model.specs.declared.steps.Actor.TheVariants.{Thread, Worker}
-use Rattle.model.proofs.Results.{same_result}
 use Rattle.parser.specs.declared.fault.FaultKind.TheVariants as kinds
 use Rattle.parser.specs.declared.heading.Sizes.{Sizes}
 use Rattle.parser.specs.declared.order.Order.{Order}
 use Rattle.parser.specs.declared.verbs.Verb.{Verb}
 use Rattle.parser.specs.declared.verbs.TheConstants.{VERBS}
-use Rattle.parser.specs.Words.{or_flaw, flaw, word_or, named_at, end_at}
 use Rattle.parser.specs.Verbs.{row_of, verb_of}
-use Rattle.parser.specs.Orders.{does, done_by, verb_in, first_byte, actor_at, operands_at, order_at}
+use Rattle.parser.specs.Orders.{does, done_by, verb_in, first_byte, actor_at, order_at}
 use Rattle.parser.specs.Headings.{config_of}
 use Rattle.parser.specs.Spelling.{actor_word, operand_words, order_words, IsActor, IsFor, IsOrder}
+use Rattle.parser.proofs.Numbers.{IsPlain}
 use Rattle.parser.proofs.Places.{words_from, words_whole, Reads}
-use Rattle.parser.proofs.Places.{bind_ok, or_flaw_ok, word_ok, word_again}
-use Rattle.parser.proofs.Places.{named_ok, named_again, end_ok, end_again, one_of}
-use Rattle.parser.proofs.Operands.{AreFew, bounds_in, operands_ok, operands_again}
+use Rattle.parser.proofs.Places.{word_again}
+use Rattle.parser.proofs.Places.{named_again, end_again}
+use Rattle.parser.proofs.Operands.{AreFew, bounds_in, operands_again}
 
 -- ---- verbs
 
@@ -73,45 +72,14 @@ actor_verb actor w v h = by_verb (verb_of w) refl h
         let own = by_test x (does actor x) refl e in
         (own.0, verb_ok w v (found ∙ ap Some own.1))
 
+-- a verb's word has no spaces
+pub text_plain : (verb : Verb) → IsPlain (row_of verb).text
+text_plain verb = grind arith
+
 -- ---- orders
 
--- an order's verb, its operands, and no more words
-whole_order : (x : List (List ℕ)) (w text : List ℕ) (y rest operands : List (List ℕ)) → x ≡ w ∷ y → w ≡ text
-    → y ≡ operands ++ rest → rest ≡ [] → x ≡ text ∷ operands
-whole_order x w text y rest operands p q r s =
-    p ∙ ap (λ (t : List ℕ). t ∷ y) q
-    ∙ ap (λ (t : List (List ℕ)). text ∷ t) (r ∙ ap (λ (t : List (List ℕ)). operands ++ t) s ∙ append-nil operands)
-
--- an order is spelled from a place to the end
-pub record IsOrderFrom (sizes : Sizes) (line : List ℕ) (actor : Actor) (at : ℕ) (o : Order) : Type 0 where
-  pub spelled : words_from line at ≡ order_words o
-  pub own : IsFor actor o
-  pub fits : IsOrder (bounds_in sizes) o
-
-pub order_ok : (sizes : Sizes) (line : List ℕ) (actor : Actor) (at : ℕ) (o : Order) → AreFew sizes
-    → order_at sizes line actor at ≡ Ok o → IsOrderFrom sizes line actor at o
-unfolding order_at
-order_ok sizes line actor at o few h =
-    let w = bind_ok (word_or line at kinds.UnknownWord) _ o h in
-    let verb = bind_ok (or_flaw (verb_in actor w.0.0) (flaw at kinds.UnknownWord)) _ o w.2 in
-    let v = bind_ok (operands_at sizes line w.0.1 verb.0) _ o verb.2 in
-    let e = bind_ok (end_at line v.0.1) _ o v.2 in
-    let first = word_ok line at kinds.UnknownWord w.0 w.1 in
-    let own = actor_verb actor w.0.0 verb.0
-    (or_flaw_ok (verb_in actor w.0.0) (flaw at kinds.UnknownWord) verb.0 verb.1) in
-    let operands = operands_ok sizes line w.0.1 verb.0 v.0 few v.1 in
-    let last = end_ok line v.0.1 e.0 e.1 in
-    let text : w.0.0 ≡ (row_of v.0.0.verb).text =
-    own.1 ∙ sym (ap (λ (x : Verb). (row_of x).text) operands.verb_is) in
-    subst (λ (x : Order). IsOrderFrom sizes line actor at x) (same_result v.0.0 o e.2) (record {
-      spelled = whole_order (words_from line at) w.0.0 (row_of v.0.0.verb).text (words_from line w.0.1)
-          (words_from line v.0.1) (operand_words (row_of v.0.0.verb).kinds v.0.0) first text operands.spelled last;
-      own = subst (λ (x : Verb). does actor x ≡ true) (sym operands.verb_is) own.0;
-      fits = operands.fits;
-    })
-
-in_verb : (actor : Actor) (o : Order) → IsFor actor o → verb_in actor (row_of o.verb).text ≡ Some o.verb
-in_verb actor o own = ap (done_by actor) (verb_again o.verb) ∙ (rw own refl)
+pub own_verb : (actor : Actor) (verb : Verb) → does actor verb ≡ true → verb_in actor (row_of verb).text ≡ Some verb
+own_verb actor verb own = ap (done_by actor) (verb_again verb) ∙ (rw own refl)
 
 pub order_again : (sizes : Sizes) (line : List ℕ) (actor : Actor) (at : ℕ) (o : Order) → AreFew sizes
     → IsFor actor o → IsOrder (bounds_in sizes) o → words_from line at ≡ order_words o
@@ -122,31 +90,9 @@ order_again sizes line actor at o few own is h =
     let w = word_again line at kinds.UnknownWord (row_of o.verb).text operands h in
     let v = operands_again sizes line w.0 o few is w.2 in
     let e = end_again line v.0 v.2 in
-    rw (w.1, in_verb actor o own, v.1, e) refl
+    rw (w.1, own_verb actor o.verb own, v.1, e) refl
 
 -- ---- actors
-
--- an actor that exists is the first word
-pub record IsActorAt (sizes : Sizes) (line : List ℕ) (a : Actor × ℕ) : Type 0 where
-  pub spelled : words_from line 0 ≡ actor_word a.0 ∷ words_from line a.1
-  pub there : IsActor (config_of sizes []) a.0
-
-pub actor_ok : (sizes : Sizes) (line : List ℕ) (a : Actor × ℕ) → AreFew sizes → actor_at sizes line ≡ Ok a
-    → IsActorAt sizes line a
-unfolding actor_at
-actor_ok sizes line a few h =
-    elim (one_of (first_byte line == 119) _ _ (Ok a) h) [
-      | inl worker ↦
-          let w = bind_ok (named_at line 0 119 sizes.workers kinds.NoSuchActor) _ a worker.1 in
-          let n = named_ok line 0 119 sizes.workers kinds.NoSuchActor w.0 (omega (arith, few.workers.1)) w.1 in
-          subst (λ (x : Actor × ℕ). IsActorAt sizes line x) (same_result (Worker w.0.0, w.0.1) a w.2)
-          (record { spelled = n.spelled; there = n.below })
-      | inr thread ↦
-          let t = bind_ok (named_at line 0 116 sizes.threads kinds.NoSuchActor) _ a thread.1 in
-          let n = named_ok line 0 116 sizes.threads kinds.NoSuchActor t.0 (omega (arith, few.threads.1)) t.1 in
-          subst (λ (x : Actor × ℕ). IsActorAt sizes line x) (same_result (Thread t.0.0, t.0.1) a t.2)
-          (record { spelled = n.spelled; there = n.below })
-    ]
 
 first_joined : (b : ℕ) (w : List ℕ) (ws : List (List ℕ)) → first_byte (join_with_byte 32 ((b ∷ w) ∷ ws)) ≡ b
 first_joined b w [] = refl

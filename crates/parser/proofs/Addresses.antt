@@ -1,23 +1,23 @@
 -- An address in a word: what is read is spelled so, and what is spelled so is read.
-use Rattle.std.proofs.Common.{◌≡◌, ℕ, ◌+◌, ◌^◌, ◌<◌, ◌≤◌, Bool, true, false, cond, nat_lt, List, [], ◌∷◌}
+use Rattle.std.proofs.Common.{◌≡◌, ℕ, ◌+◌, ◌^◌, ◌<◌, Bool, true, false, cond, nat_lt, List, [], ◌∷◌}
 use Rattle.std.proofs.Common.{◌++◌, length, take, drop, Option, Some, None, position, refl, sym, ap, subst, ◌∙◌, arith}
 use Rattle.std.proofs.Common.{length-append}
-use Rattle.std.specs.Prelude.{Ok, ◌==◌, ◌||◌, not, nat_le}
+use Rattle.std.specs.Prelude.{Ok, ◌==◌, not, nat_le}
 use Rattle.std.specs.Fmt.{decimal}
 use Rattle.std.specs.List.{AllByRecursion, list_all, slice_split, join_with_byte, position_or_len}
-use Rattle.std.proofs.lemmas.Bool.{and_parts, or_parts, not-false, leb-false, lt-ltb}
+use Rattle.std.proofs.lemmas.Bool.{and_parts, lt-ltb}
 use Rattle.std.proofs.lemmas.Bool.Decides.{nat_tests}
 use Rattle.std.proofs.lemmas.List.Splits.{join_with_byte-slice_split}
 use Rattle.std.proofs.lemmas.Option.{same_Some}
 use Rattle.std.proofs.Math.Seq.{take-append_seam, drop-append-add}
-use Rattle.model.proofs.Results.{same_result, not_refused}
 use Rattle.parser.specs.declared.fault.FaultKind.TheVariants as kinds
-use Rattle.parser.specs.Words.{or_flaw, flaw, word_or, is_digit, is_number, capped_from, parts_at, point_parts}
-use Rattle.parser.specs.Words.{address_number, page_in, offset_in, address_or, address_in, address_at}
+use Rattle.parser.specs.Words.{is_digit, parts_at, point_parts}
+use Rattle.parser.specs.Words.{address_number, page_in, offset_in, address_in, address_at}
 use Rattle.parser.specs.Spelling.{address_word}
 use Rattle.parser.proofs.Lists.{split_cons, split_some}
-use Rattle.parser.proofs.Numbers.{number_spelled, number_read, decimal_digits}
-use Rattle.parser.proofs.Places.{words_from, Reads, bind_ok, or_flaw_ok, word_ok, word_again}
+use Rattle.std.proofs.lemmas.List.Folds.{list_all-append}
+use Rattle.parser.proofs.Numbers.{IsPlain, number_plain, number_read, decimal_digits}
+use Rattle.parser.proofs.Places.{words_from, Reads, word_again}
 
 -- ---- the parts of a word
 
@@ -85,74 +85,16 @@ parts_again front back h =
 -- ---- pages and offsets
 
 -- a page and an offset are those of their number
-page_again : (page offset : ℕ) → offset < 2 ^ 32 → page_in (address_number page offset) ≡ page
+pub page_again : (page offset : ℕ) → offset < 2 ^ 32 → page_in (address_number page offset) ≡ page
 page_again page offset h = omega arith
 
-offset_again : (page offset : ℕ) → offset < 2 ^ 32 → offset_in (address_number page offset) ≡ offset
+pub offset_again : (page offset : ℕ) → offset < 2 ^ 32 → offset_in (address_number page offset) ≡ offset
 offset_again page offset h = omega arith
 
 number_again : (n : ℕ) → address_number (page_in n) (offset_in n) ≡ n
 number_again n = omega arith
 
 -- ---- an address
-
--- an address, with an offset below a number of words, is the word at a place
-pub record IsAddressAt (line : List ℕ) (at words : ℕ) (v : ℕ × ℕ) : Type 0 where
-  pub spelled : words_from line at ≡ address_word (page_in v.0) (offset_in v.0) ∷ words_from line v.1
-  pub fits : v.0 < 2 ^ 64
-  pub within : offset_in v.0 < words
-
--- what is read from two parts
-record IsPair (parts : List ℕ × List ℕ) (after words : ℕ) (v : ℕ × ℕ) : Type 0 where
-  page : decimal (page_in v.0) ≡ parts.0
-  offset : decimal (offset_in v.0) ≡ parts.1
-  place : after ≡ v.1
-  fits : v.0 < 2 ^ 64
-  within : offset_in v.0 < words
-
-pair_ok : (parts : List ℕ × List ℕ) (after at words : ℕ) (v : ℕ × ℕ) → words ≤ 2 ^ 32
-    → address_in parts after at words ≡ Ok v → IsPair parts after words v
-pair_ok parts after at words v few h =
-    let page = capped_from 0 parts.0 in
-    let offset = capped_from 0 parts.1 in
-    let form = not_refused (not (is_number parts.0) || not (is_number parts.1)) (flaw at kinds.UnknownWord)
-    (address_or page offset after at words) v h in
-    let sides = or_parts (not (is_number parts.0)) (not (is_number parts.1)) form.0 in
-    let range = not_refused (nat_le (2 ^ 32) page || nat_le words offset) (flaw at kinds.NumberOutOfRange)
-    (Ok (address_number page offset, after)) v form.1 in
-    let bounds = or_parts (nat_le (2 ^ 32) page) (nat_le words offset) range.0 in
-    let page_below : page < 2 ^ 32 = leb-false (2 ^ 32) page bounds.0 in
-    let offset_below : offset < words = leb-false words offset bounds.1 in
-    let page_is = page_again page offset (omega arith) in
-    let offset_is = offset_again page offset (omega arith) in
-    subst (λ (x : ℕ × ℕ). IsPair parts after words x) (same_result (address_number page offset, after) v range.1)
-    (record {
-      page = ap decimal page_is ∙ number_spelled parts.0 (not-false (is_number parts.0) sides.0) (omega arith);
-      offset = ap decimal offset_is ∙ number_spelled parts.1 (not-false (is_number parts.1) sides.1) (omega arith);
-      place = refl;
-      fits = omega arith;
-      within = rw offset_is offset_below;
-    })
-
-pub address_ok : (line : List ℕ) (at words : ℕ) (v : ℕ × ℕ) → words ≤ 2 ^ 32 → address_at line at words ≡ Ok v
-    → IsAddressAt line at words v
-unfolding address_at
-address_ok line at words v few h =
-    let w = bind_ok (word_or line at kinds.UnknownWord) _ v h in
-    let parts = bind_ok (or_flaw (point_parts w.0.0) (flaw at kinds.UnknownWord)) _ v w.2 in
-    let pair = pair_ok parts.0 w.0.1 at words v few parts.2 in
-    let cut = parts_are w.0.0 parts.0
-    (or_flaw_ok (point_parts w.0.0) (flaw at kinds.UnknownWord) parts.0 parts.1) in
-    let word : w.0.0 ≡ address_word (page_in v.0) (offset_in v.0) =
-    cut ∙ ap (λ (x : List ℕ). x ++ (46 ∷ parts.0.1)) (sym pair.page)
-    ∙ ap (λ (x : List ℕ). decimal (page_in v.0) ++ (46 ∷ x)) (sym pair.offset) in
-    record {
-      spelled = word_ok line at kinds.UnknownWord w.0 w.1
-          ∙ ap (λ (x : List ℕ). x ∷ words_from line w.0.1) word
-          ∙ ap (λ (x : ℕ). address_word (page_in v.0) (offset_in v.0) ∷ words_from line x) pair.place;
-      fits = pair.fits;
-      within = pair.within;
-    }
 
 pub address_again : (line : List ℕ) (at words n : ℕ) (ws : List (List ℕ)) → n < 2 ^ 64 → offset_in n < words
     → words_from line at ≡ address_word (page_in n) (offset_in n) ∷ ws → Reads line (address_at line at words) n ws
@@ -170,3 +112,10 @@ address_again line at words n ws fits within h =
     rw (page_read.0, page_read.1, offset_read.0, offset_read.1, page_fits, offset_fits)
     (ap (λ (x : ℕ). Ok (x, w.0)) (number_again n)) in
     (w.0, rw (w.1, parts) read, w.2)
+
+-- an address has no spaces
+pub address_plain : (n : ℕ) → n < 2 ^ 64 → IsPlain (address_word (page_in n) (offset_in n))
+address_plain n h =
+    let page = number_plain (page_in n) (omega arith) in
+    let offset = number_plain (offset_in n) (omega arith) in
+    list_all-append (λ b. nat_lt 32 b) (decimal (page_in n)) (46 ∷ decimal (offset_in n)) ∙ (rw (page, offset) refl)

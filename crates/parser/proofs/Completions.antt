@@ -22,11 +22,13 @@ use Rattle.parser.specs.Spelling.{part_commands, with_newline, IsPart, says_some
 use Rattle.parser.specs.Spelling.{IsScript}
 use Rattle.parser.specs.Faults.{text_of, BeginsScript, EndInBlock, HaveNoFault}
 use Rattle.parser.proofs.HeapLines.{IsSizes}
-use Rattle.parser.proofs.Plain.{no_newlines, words_no_newlines, number_plain, sizes_plain}
+use Rattle.parser.proofs.Numbers.{number_plain}
+use Rattle.parser.proofs.Plain.{no_newlines, words_no_newlines, sizes_plain}
 use Rattle.parser.proofs.Ranges.{AreLayouts, config_in_range}
 use Rattle.parser.proofs.Lists.{HasNoNewlines, all_both, all_push, all_from, lines_from}
 use Rattle.parser.proofs.Parts.{HasTurns, say_end, more_commands, all_repeated}
-use Rattle.parser.proofs.ReadIsSpelled.{IsBehind, IsBefore, Said, line_ok, some_layouts}
+use Rattle.parser.proofs.ReadIsSpelled.{line_ok}
+use Rattle.parser.proofs.SaidSoFar.{IsBehind, IsBefore, Said, some_layouts}
 use Rattle.parser.proofs.ScriptIsSpelled.{all_said, commands_with, finished_ok}
 use Rattle.parser.proofs.TakenLines.{layout_taken, heap_taken}
 

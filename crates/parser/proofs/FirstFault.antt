@@ -1,5 +1,5 @@
 -- The fault that reading finds is the first one.
-use Rattle.std.proofs.Common.{◌≡◌, ◌≢◌, ℕ, ◌≤◌, true, false, Bool, ◌+◌, List, [], ◌∷◌, ◌++◌, length, Option, Some, None}
+use Rattle.std.proofs.Common.{◌≡◌, ◌≢◌, ℕ, true, false, Bool, ◌+◌, List, [], ◌∷◌, ◌++◌, length, Option, Some, None}
 use Rattle.std.proofs.Common.{refl, sym, ap, subst, ◌∙◌, arith, inl, inr, append-nil, append_assoc, cond}
 use Rattle.std.specs.Prelude.{Result, Ok, Err, ◌==◌, ◌⊎◌, filter}
 use Rattle.std.specs.List.{AllByRecursion, slice_split, join_with_byte}
@@ -19,16 +19,15 @@ use Rattle.parser.specs.Scripts.{IsReadOf, ParsedScript}
 use Rattle.parser.specs.Spelling.{says_something}
 use Rattle.parser.specs.Faults.{text_of, IsLineEnd, StandsInLine, StandsAtEnd, LacksNewline, IsFirstFault}
 use Rattle.parser.specs.Faults.{IsMissingBehind, IsWrongWord, TellsFirst}
-use Rattle.parser.proofs.Lists.{split_cons}
+use Rattle.parser.proofs.Lists.{all_back, split_cons}
 use Rattle.parser.proofs.Lists.{HasNoNewlines, all_from, all_front, all_push, split_lines, lines_from, told}
 use Rattle.parser.proofs.Lists.{filter_told}
-use Rattle.parser.proofs.Parts.{all_back}
-use Rattle.parser.proofs.ReadIsSpelled.{IsBehind, Said, line_ok, some_layouts}
+use Rattle.parser.proofs.ReadIsSpelled.{line_ok}
+use Rattle.parser.proofs.SaidSoFar.{IsBehind, Said, some_layouts}
 use Rattle.parser.proofs.SpelledIsRead.{spelled_is_read}
 use Rattle.parser.proofs.Stops.{Leads, leads_said, IsWrong, IsMissing, IsUnended, StopsAt, stops}
 use Rattle.parser.proofs.Completions.{open_ends, not_started, taken_have_none}
-use Rattle.parser.proofs.Alike.{IsFaultAt, IsPlaced, alike_self}
-use Rattle.parser.proofs.AlikeLines.{line_taken}
+use Rattle.parser.proofs.LineFaults.{fault_placed}
 use Rattle.parser.proofs.RightUpTo.{right_up_to}
 use Rattle.parser.proofs.Stops.{never_begins}
 
@@ -81,19 +80,11 @@ has_lines bytes before line others h =
 one_more : (k : ℕ) → 1 + k ≡ k + 1
 one_more k = omega arith
 
--- a command or a block begins after some layout line
-has_started : (said : List (List ℕ)) (t : ReadSoFar) → Said said t → t.begun ≡ true → 1 ≤ length t.layouts
-has_started said t (inl before) h = let no : t.begun ≡ false = ap (λ (x : ReadSoFar). x.begun) before.is in absurd cc
-has_started said t (inr behind) h = behind.started h
-
 in_line : (bytes : List ℕ) (before : List (List ℕ)) (line : List ℕ) (others : List (List ℕ)) (n : ℕ) (t : ReadSoFar)
     (fault : LineFault) → HasLines bytes before line others → n ≡ 1 + length before → Leads before nothing t
     → Said (filter says_something before) t → IsWrong n t line fault → StandsInLine bytes fault
 in_line bytes before line others n t fault has number leads so_far why =
-    let started = has_started (filter says_something before) t so_far in
-    let taken = line_taken 0 line line (alike_self line) t started in
-    let at : IsFaultAt line why.flaw =
-    subst (IsPlaced line (λ (x : ReadSoFar). length line + 1)) why.wrong taken.placed in
+    let at = fault_placed line t why.flaw (filter says_something before) so_far why.wrong in
     record {
       before = before;
       line = line;
@@ -111,8 +102,8 @@ in_line bytes before line others n t fault has number leads so_far why =
       wrong = subst (λ (x : FaultKind). IsWrongWord x at.front at.word)
           (ap (λ (x : LineFault). x.kind) why.fault_is) at.wrong;
       faultless = taken_have_none before t has.each so_far;
-      right = right_up_to before line t why.flaw has.each so_far why.wrong at;
-      never = never_begins before line at.front at.word at.back t why.flaw has.each has.own leads started why.wrong
+      right = right_up_to before line t why.flaw has.each has.own so_far why.wrong at;
+      never = never_begins before line at.front at.word at.back t why.flaw has.each has.own leads why.wrong
           at.is.line_is at.is.ends at.column;
     }
 

@@ -12,7 +12,7 @@ use Rattle.parser.specs.declared.fault.FaultKind.TheVariants as kinds
 use Rattle.parser.specs.declared.fault.Flaw.{Flaw}
 use Rattle.parser.specs.Words.{◌>>=◌, flaw, word_at, word_or, is_number, capped_from, in_range, number_at, small_at}
 use Rattle.parser.specs.Orders.{numbers_by, numbers_at}
-use Rattle.parser.proofs.Places.{words_from, Reads, bind_ok, or_flaw_ok, past_end, end_past, small_ok, small_again}
+use Rattle.parser.proofs.Places.{words_from, Reads, bind_ok, or_flaw_ok, past_end, end_past, small_again}
 use Rattle.parser.proofs.WordPlaces.{finds_word, none_past}
 
 -- ---- places
@@ -148,34 +148,6 @@ ended line at place ns h past =
 -- each number fits 32 bits
 abbrev pub AreSmall : List ℕ → Type 0
 AreSmall ns = AllByRecursion (λ n. n < 2 ^ 32) ns
-
--- numbers are spelled from a place on
-pub record AreNumbersAt (line : List ℕ) (at : ℕ) (v : List ℕ × ℕ) : Type 0 where
-  pub spelled : words_from line at ≡ map decimal v.0 ++ words_from line v.1
-  pub small : AreSmall v.0
-
-by_ok : (n : ℕ) (line : List ℕ) (at : ℕ) (v : List ℕ × ℕ) → numbers_by n line at ≡ Ok v → AreNumbersAt line at v
-unfolding numbers_by
-by_ok zero line at v h =
-    subst (AreNumbersAt line at) (same_result ([], at) v h) (record { spelled = refl; small = tt })
-by_ok (suc n) line at v h = elim (cases_lt (length line) at) [
-  | inl past ↦
-      subst (AreNumbersAt line at) (same_result ([], at) v (sym (by_past (suc n) line at past) ∙ h))
-      (record { spelled = refl; small = tt })
-  | inr within ↦
-      let a = bind_ok (small_at line at) _ v (sym (by_first n line at within) ∙ h) in
-      let b = bind_ok (numbers_by n line a.0.1) _ v a.2 in
-      let first = small_ok line at a.0 a.1 in
-      let others = by_ok n line a.0.1 b.0 b.1 in
-      subst (AreNumbersAt line at) (same_result (a.0.0 ∷ b.0.0, b.0.1) v b.2) (record {
-        spelled = first.spelled ∙ ap (λ (ws : List (List ℕ)). decimal a.0.0 ∷ ws) others.spelled;
-        small = (omega (arith, first.below), others.small);
-      })
-]
-
-pub numbers_ok : (line : List ℕ) (at : ℕ) (v : List ℕ × ℕ) → numbers_at line at ≡ Ok v → AreNumbersAt line at v
-unfolding numbers_at
-numbers_ok line at v h = by_ok (length line + 1) line at v h
 
 pub numbers_again : (line : List ℕ) (at : ℕ) (ns : List ℕ) → AreSmall ns → words_from line at ≡ map decimal ns
     → Reads line (numbers_at line at) ns []

@@ -1,6 +1,6 @@
 -- Numbers in words are read as they are spelled.
 use Rattle.std.proofs.Common.{◌≡◌, ℕ, ◌+◌, ◌-◌, ◌*◌, ◌^◌, ◌<◌, Bool, true, false, List, []}
-use Rattle.std.proofs.Common.{◌∷◌, length, get_or, refl, ap, ◌∙◌, arith, rules, inl, inr}
+use Rattle.std.proofs.Common.{nat_lt, ◌∷◌, length, get_or, refl, ap, ◌∙◌, arith, rules, inl, inr}
 use Rattle.std.specs.Prelude.{◌&&◌, ◌||◌, not, min, ◌==◌}
 use Rattle.std.specs.List.{list_all}
 use Rattle.std.specs.Fmt.{decimal}
@@ -102,3 +102,20 @@ number_read n h =
           || not (starts_with_zero (decimal n))) nonempty (digits_decimal own n h) (canonical_decimal n h),
       omega (arith, capped_whole (decimal n), value),
     )
+
+-- ---- plain words
+
+-- each byte of a word is above the space: none is a space or a newline
+abbrev pub IsPlain : List ℕ → Type 0
+IsPlain w = list_all (λ b. nat_lt 32 b) w ≡ true
+
+digits_plain : (ds : List ℕ) → list_all is_digit ds ≡ true → IsPlain ds
+digits_plain [] h = refl
+digits_plain (b ∷ bs) h =
+    let p = and_parts (is_digit b) (list_all is_digit bs) h in
+    let digit = p.0 in
+    let high : nat_lt 32 b ≡ true = grind (arith, nat_tests) in
+    rw high (digits_plain bs p.1)
+
+pub number_plain : (n : ℕ) → n < 2 ^ 64 → IsPlain (decimal n)
+number_plain n h = digits_plain (decimal n) (decimal_digits n h)

@@ -1,25 +1,23 @@
 -- An order's operands: what is read is spelled so, and what is spelled so is read.
-use Rattle.std.proofs.Common.{◌≡◌, ℕ, ◌^◌, ◌<◌, ◌≤◌, Bool, true, false, List, [], ◌++◌, refl, sym, ap, subst, ◌∙◌}
-use Rattle.std.proofs.Common.{arith, lit<}
+use Rattle.std.proofs.Common.{◌≡◌, ℕ, ◌^◌, ◌<◌, ◌≤◌, Bool, true, false, List, [], ◌++◌, refl, sym, ap, ◌∙◌}
+use Rattle.std.proofs.Common.{arith}
 use Rattle.std.proofs.Common.{append_assoc}
 use Rattle.std.specs.Prelude.{Ok, map}
 use Rattle.std.specs.Fmt.{decimal}
-use Rattle.model.proofs.Results.{same_result}
 use Rattle.parser.specs.declared.fault.FaultKind.TheVariants as kinds
 use Rattle.parser.specs.declared.heading.Sizes.{Sizes}
 use Rattle.parser.specs.declared.order.Order.{Order}
 use Rattle.parser.specs.declared.verbs.Kind.{Kind}
 use Rattle.parser.specs.declared.verbs.Kind.TheVariants.{Nothing, Register, Number, ThreadName, Long, Address, Percent}
-use Rattle.parser.specs.declared.verbs.Verb.{Verb}
 use Rattle.parser.specs.Verbs.{row_of}
-use Rattle.parser.specs.Orders.{register_at, operand_at, more_at, order_of, operands_at}
+use Rattle.parser.specs.Orders.{register_at, operand_at, more_at, operands_at}
 use Rattle.parser.specs.Headings.{config_of}
 use Rattle.parser.specs.Spelling.{operand_word, operand_words, Bounds, bounds_of, IsOperand, AreMore, IsOrder}
 use Rattle.parser.proofs.Places.{words_from, Reads}
-use Rattle.parser.proofs.Addresses.{address_ok, address_again}
-use Rattle.parser.proofs.Lists.{all_from, all_to}
-use Rattle.parser.proofs.ManyNumbers.{numbers_ok, numbers_again}
-use Rattle.parser.proofs.Places.{bind_ok, number_ok, number_again, small_ok, small_again, named_ok, named_again}
+use Rattle.parser.proofs.Addresses.{address_again}
+use Rattle.parser.proofs.Lists.{all_to}
+use Rattle.parser.proofs.ManyNumbers.{numbers_again}
+use Rattle.parser.proofs.Places.{number_again, small_again, named_again}
 
 -- ---- bounds
 
@@ -40,35 +38,6 @@ bounds_in sizes = bounds_of (config_of sizes [])
 
 -- ---- one operand
 
--- an operand of a kind is spelled at a place
-pub record IsOperandAt (sizes : Sizes) (line : List ℕ) (at : ℕ) (kind : Kind) (v : ℕ × ℕ) : Type 0 where
-  pub spelled : words_from line at ≡ operand_word kind v.0 ++ words_from line v.1
-  pub fits : IsOperand (bounds_in sizes) kind v.0
-
-pub operand_ok : (sizes : Sizes) (line : List ℕ) (at : ℕ) (kind : Kind) (v : ℕ × ℕ) → AreFew sizes
-    → operand_at sizes line at kind ≡ Ok v → IsOperandAt sizes line at kind v
-unfolding operand_at register_at
-operand_ok sizes line at Nothing v few h =
-    subst (λ (x : ℕ × ℕ). IsOperandAt sizes line at Nothing x) (same_result (0, at) v h)
-    (record { spelled = refl; fits = refl })
-operand_ok sizes line at Register v few h =
-    let n = named_ok line at 114 sizes.registers kinds.NoSuchRegister v (omega (arith, few.registers.1)) h in
-    record { spelled = n.spelled; fits = n.below }
-operand_ok sizes line at Number v few h =
-    let n = small_ok line at v h in record { spelled = n.spelled; fits = omega (arith, n.below) }
-operand_ok sizes line at Long v few h =
-    let n = number_ok line at 0 18446744073709551615 v (lit< tt) h in
-    record { spelled = n.spelled; fits = omega (arith, n.below) }
-operand_ok sizes line at ThreadName v few h =
-    let n = named_ok line at 116 sizes.threads kinds.NoSuchActor v (omega (arith, few.threads.1)) h in
-    record { spelled = n.spelled; fits = n.below }
-operand_ok sizes line at Address v few h =
-    let a = address_ok line at sizes.words v (omega (arith, few.words.1)) h in
-    record { spelled = a.spelled; fits = (a.fits, a.within) }
-operand_ok sizes line at Percent v few h =
-    let n = number_ok line at 0 100 v (lit< tt) h in
-    record { spelled = n.spelled; fits = omega (arith, n.below) }
-
 pub operand_again : (sizes : Sizes) (line : List ℕ) (at : ℕ) (kind : Kind) (n : ℕ) (ws : List (List ℕ))
     → AreFew sizes → IsOperand (bounds_in sizes) kind n → words_from line at ≡ operand_word kind n ++ ws
     → Reads line (operand_at sizes line at kind) n ws
@@ -87,20 +56,6 @@ operand_again sizes line at Percent n ws few is h =
 
 -- ---- numbers after operands
 
--- more numbers are spelled at a place, if they are allowed
-record AreMoreAt (line : List ℕ) (at : ℕ) (some : Bool) (v : List ℕ × ℕ) : Type 0 where
-  spelled : words_from line at ≡ map decimal v.0 ++ words_from line v.1
-  fits : AreMore some v.0
-
-more_ok : (line : List ℕ) (at : ℕ) (some : Bool) (v : List ℕ × ℕ) → more_at some line at ≡ Ok v
-    → AreMoreAt line at some v
-more_ok line at false v h =
-    subst (λ (x : List ℕ × ℕ). AreMoreAt line at false x) (same_result ([], at) v h)
-    (record { spelled = refl; fits = refl })
-more_ok line at true v h =
-    let n = numbers_ok line at v h in
-    record { spelled = n.spelled; fits = all_from (λ n. n < 2 ^ 32) v.0 n.small }
-
 more_again : (line : List ℕ) (at : ℕ) (some : Bool) (ns : List ℕ) → AreMore some ns
     → words_from line at ≡ map decimal ns → Reads line (more_at some line at) ns []
 more_again line at false ns is h =
@@ -112,42 +67,6 @@ more_again line at true ns is h = numbers_again line at ns (all_to (λ n. n < 2 
 -- words after words
 pub behind : (a x b y c : List (List ℕ)) → a ≡ x ++ b → b ≡ y ++ c → a ≡ (x ++ y) ++ c
 behind a x b y c e f = e ∙ ap (λ (t : List (List ℕ)). x ++ t) f ∙ sym (append_assoc x y c)
-
--- an order of the verb is spelled from a place on, after its verb
-pub record IsOrderAt (sizes : Sizes) (line : List ℕ) (at : ℕ) (verb : Verb) (v : Order × ℕ) : Type 0 where
-  pub verb_is : v.0.verb ≡ verb
-  pub spelled : words_from line at ≡ operand_words (row_of v.0.verb).kinds v.0 ++ words_from line v.1
-  pub fits : IsOrder (bounds_in sizes) v.0
-
-pub operands_ok : (sizes : Sizes) (line : List ℕ) (at : ℕ) (verb : Verb) (v : Order × ℕ) → AreFew sizes
-    → operands_at sizes line at verb ≡ Ok v → IsOrderAt sizes line at verb v
-unfolding operands_at
-operands_ok sizes line at verb v fits h =
-    let k = (row_of verb).kinds in
-    let a = bind_ok (operand_at sizes line at k.first) _ v h in
-    let b = bind_ok (operand_at sizes line a.0.1 k.second) _ v a.2 in
-    let c = bind_ok (operand_at sizes line b.0.1 k.third) _ v b.2 in
-    let d = bind_ok (operand_at sizes line c.0.1 k.wide) _ v c.2 in
-    let e = bind_ok (more_at k.more line d.0.1) _ v d.2 in
-    let first = operand_ok sizes line at k.first a.0 fits a.1 in
-    let second = operand_ok sizes line a.0.1 k.second b.0 fits b.1 in
-    let third = operand_ok sizes line b.0.1 k.third c.0 fits c.1 in
-    let wide = operand_ok sizes line c.0.1 k.wide d.0 fits d.1 in
-    let more = more_ok line d.0.1 k.more e.0 e.1 in
-    let order = order_of verb a.0.0 b.0.0 c.0.0 d.0.0 e.0.0 in
-    subst (λ (x : Order × ℕ). IsOrderAt sizes line at verb x) (same_result (order, e.0.1) v e.2)
-    (record {
-      verb_is = refl;
-      spelled = behind _ _ _ _ _ first.spelled (behind _ _ _ _ _ second.spelled
-          (behind _ _ _ _ _ third.spelled (behind _ _ _ _ _ wide.spelled more.spelled)));
-      fits = record {
-        first = first.fits;
-        second = second.fits;
-        third = third.fits;
-        wide = wide.fits;
-        more = more.fits;
-      };
-    })
 
 pub operands_again : (sizes : Sizes) (line : List ℕ) (at : ℕ) (o : Order) → AreFew sizes → IsOrder (bounds_in sizes) o
     → words_from line at ≡ operand_words (row_of o.verb).kinds o → Reads line (operands_at sizes line at o.verb) o []

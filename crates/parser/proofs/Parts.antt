@@ -120,10 +120,6 @@ repeated_length zero cs = no_turn (length cs)
 repeated_length (suc n) cs = length-append cs (repeat n cs) ∙ ap (λ k. length cs + k) (repeated_length n cs)
     ∙ sym (one_turn n (length cs))
 
-pub all_back : {A : Type 0} (P : A → Type 0) (xs ys : List A) → AllByRecursion P (xs ++ ys) → AllByRecursion P ys
-all_back P [] ys h = h
-all_back P (x ∷ xs) ys h = all_back P xs ys h.1
-
 -- what holds for repeated commands holds for them
 pub all_of_repeated : (P : Command → Type 0) (n : ℕ) (cs : List Command) → 1 ≤ n → AllByRecursion P (repeat n cs)
     → AllByRecursion P cs

@@ -1,18 +1,18 @@
 -- A place represents the words from there to the end of the line: what is read there is spelled so, and the other way
 -- round.
 use Rattle.std.proofs.Common.{◌≡◌, ℕ, ◌+◌, ◌<◌, ◌≤◌, Bool, true, false, cond, nat_lt, List, [], ◌∷◌, length, drop}
-use Rattle.std.proofs.Common.{Option, Some, None, position, refl, sym, ap, subst, ◌∙◌, arith, inl, inr, ◌-◌, ◌^◌}
-use Rattle.std.proofs.Common.{lit<, ◌⊎◌}
+use Rattle.std.proofs.Common.{Option, Some, None, position, refl, sym, ap, subst, ◌∙◌, arith, inl, inr, ◌^◌}
+use Rattle.std.proofs.Common.{◌⊎◌}
 use Rattle.std.specs.Prelude.{Result, Ok, ◌==◌, Err, ◌||◌, not, nat_le}
 use Rattle.std.specs.List.{slice_split}
-use Rattle.std.proofs.lemmas.Bool.{ltb-false, le-ltb, lt-ltb, cases_lt, or_parts, not-false, leb-false}
+use Rattle.std.proofs.lemmas.Bool.{ltb-false, le-ltb, lt-ltb, cases_lt, or_parts}
 use Rattle.std.proofs.lemmas.Bool.Decides.{nat_tests, Decides-eqb}
 use Rattle.std.proofs.lemmas.List.{drop-drop, length-drop}
 use Rattle.std.proofs.lemmas.List.Quantifiers.{position-Some}
 use Rattle.std.proofs.lemmas.Option.{same_Some}
 use Rattle.parser.specs.declared.fault.Flaw.{Flaw}
 use Rattle.parser.specs.Words.{cut_at, word_at, ◌>>=◌, flaw, or_flaw, word_or, fixed_at, is_number, capped_from}
-use Rattle.parser.specs.Words.{in_range, number_at, small_at, named_in, named_at, end_at}
+use Rattle.parser.specs.Words.{in_range, number_at, small_at, named_at, end_at}
 use Rattle.parser.proofs.Lists.{split_some, split_none, split_cons}
 use Rattle.std.specs.Str.{bytes_eq}
 use Rattle.std.specs.Fmt.{decimal}
@@ -154,18 +154,6 @@ pub word_again : (line : List ℕ) (at : ℕ) (kind : FaultKind) (w : List ℕ) 
 unfolding word_or
 word_again line at kind w ws h = let found = found_word line at w ws h in (found.0, rw found.1 refl, found.2)
 
-pub fixed_ok : (line : List ℕ) (at : ℕ) (text : List ℕ) (kind : FaultKind) (after : ℕ)
-    → fixed_at line at text kind ≡ Ok after → words_from line at ≡ text ∷ words_from line after
-unfolding fixed_at
-fixed_ok line at text kind after h =
-    let b = bind_ok (word_or line at kind) (λ w. cond (bytes_eq w.0 text) (Ok w.1) (Err (flaw at kind))) after h in
-    let w = b.0 in
-    let t = test_ok (bytes_eq w.0 text) (flaw at kind) (Ok w.1) after b.2 in
-    let same : w.0 ≡ text = (bytes_eq-Decides w.0 text).0 t.0 in
-    let place : w.1 ≡ after = same_result w.1 after t.1 in
-    word_ok line at kind w b.1 ∙ ap (λ (x : List ℕ). x ∷ words_from line w.1) same
-    ∙ ap (λ (x : ℕ). text ∷ words_from line x) place
-
 -- if a required word is there, the place after it is read
 pub fixed_again : (line : List ℕ) (at : ℕ) (text : List ℕ) (kind : FaultKind) (ws : List (List ℕ))
     → words_from line at ≡ text ∷ ws
@@ -219,63 +207,12 @@ number_again line at low high n ws fits above below h =
     let range = outside_not n low high above below in
     (w.0, rw (w.1, read.0, read.1, range) refl, w.2)
 
-pub small_ok : (line : List ℕ) (at : ℕ) (v : ℕ × ℕ) → small_at line at ≡ Ok v → IsNumberAt line at 0 (2 ^ 32 - 1) v
-unfolding small_at
-small_ok line at v h = number_ok line at 0 4294967295 v (lit< tt) h
-
 pub small_again : (line : List ℕ) (at n : ℕ) (ws : List (List ℕ)) → n < 2 ^ 32 → words_from line at ≡ decimal n ∷ ws
     → Reads line (small_at line at) n ws
 unfolding small_at
 small_again line at n ws small h = number_again line at 0 4294967295 n ws (omega arith) (omega arith) (omega arith) h
 
 -- ---- names
-
--- a word is a letter and a number below count
-record IsNamed (word : List ℕ) (after letter count : ℕ) (v : ℕ × ℕ) : Type 0 where
-  spelled : word ≡ letter ∷ decimal v.0
-  place : after ≡ v.1
-  below : v.0 < count
-
-named_in_ok : (word : List ℕ) (after at letter count : ℕ) (missing : FaultKind) (v : ℕ × ℕ) → count < 2 ^ 64
-    → named_in word after at letter count missing ≡ Ok v → IsNamed word after letter count v
-named_in_ok [] after at letter count missing v fits h = absurd cc
-named_in_ok (b ∷ bs) after at letter count missing v fits h =
-    let n = capped_from 0 bs in
-    let form = not_refused (not (b == letter) || not (is_number bs)) (flaw at kinds.UnknownWord)
-    (cond (nat_le count n) (Err (flaw at missing)) (Ok (n, after))) v h in
-    let range = not_refused (nat_le count n) (flaw at missing) (Ok (n, after)) v form.1 in
-    let sides = or_parts (not (b == letter)) (not (is_number bs)) form.0 in
-    let first : b ≡ letter = not_not_eq b letter sides.0 in
-    let number : is_number bs ≡ true = not-false (is_number bs) sides.1 in
-    let below : n < count = leb-false count n range.0 in
-    let spelled : decimal n ≡ bs = number_spelled bs number (omega arith) in
-    let pair : (n, after) ≡ v = same_result (n, after) v range.1 in
-    subst (λ (x : ℕ × ℕ). IsNamed (b ∷ bs) after letter count x) pair (record {
-      spelled = ap (λ (x : ℕ). x ∷ bs) first ∙ ap (λ (x : List ℕ). letter ∷ x) (sym spelled);
-      place = refl;
-      below = below;
-    })
-  where
-    not_not_eq : (a b : ℕ) → not (a == b) ≡ false → a ≡ b
-    not_not_eq a b h = (Decides-eqb a b).0 (not-false (a == b) h)
-
--- a letter and a number below count are the word at a place
-pub record IsNameAt (line : List ℕ) (at letter count : ℕ) (v : ℕ × ℕ) : Type 0 where
-  pub spelled : words_from line at ≡ (letter ∷ decimal v.0) ∷ words_from line v.1
-  pub below : v.0 < count
-
-pub named_ok : (line : List ℕ) (at letter count : ℕ) (missing : FaultKind) (v : ℕ × ℕ) → count < 2 ^ 64
-    → named_at line at letter count missing ≡ Ok v → IsNameAt line at letter count v
-unfolding named_at
-named_ok line at letter count missing v fits h =
-    let b = bind_ok (word_or line at kinds.UnknownWord) (λ w. named_in w.0 w.1 at letter count missing) v h in
-    let w = b.0 in
-    let named = named_in_ok w.0 w.1 at letter count missing v fits b.2 in
-    record {
-      spelled = word_ok line at kinds.UnknownWord w b.1 ∙ ap (λ (x : List ℕ). x ∷ words_from line w.1) named.spelled
-          ∙ ap (λ (x : ℕ). (letter ∷ decimal v.0) ∷ words_from line x) named.place;
-      below = named.below;
-    }
 
 pub named_again : (line : List ℕ) (at letter count : ℕ) (missing : FaultKind) (n : ℕ) (ws : List (List ℕ))
     → n < 2 ^ 64 → n < count → words_from line at ≡ (letter ∷ decimal n) ∷ ws

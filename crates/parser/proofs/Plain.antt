@@ -14,25 +14,21 @@ use Rattle.parser.specs.declared.heading.Sizes.{Sizes}
 use Rattle.parser.specs.declared.order.Order.{Order}
 use Rattle.parser.specs.declared.verbs.Kind.{Kind}
 use Rattle.parser.specs.declared.verbs.Kind.TheVariants.{Nothing, Register, Number, ThreadName, Long, Address, Percent}
-use Rattle.parser.specs.declared.verbs.Verb.{Verb}
-use Rattle.parser.specs.Words.{is_digit, page_in, offset_in}
 use Rattle.parser.specs.Verbs.{row_of}
 use Rattle.parser.specs.Headings.{config_of}
 use Rattle.parser.specs.Reading.{newline}
-use Rattle.parser.specs.Spelling.{line_of, actor_word, address_word, operand_word, order_words, SpellsLimit}
+use Rattle.parser.specs.Spelling.{line_of, actor_word, operand_word, order_words, SpellsLimit}
 use Rattle.parser.specs.Spelling.{with_newline}
-use Rattle.std.proofs.lemmas.List.Folds.{list_all-append}
 use Rattle.parser.specs.Spelling.{IsActor, IsOperand, AreMore, IsOrder}
-use Rattle.parser.proofs.Lists.{HasNoNewlines, all_both, all_from, all_to}
+use Rattle.parser.proofs.Lists.{HasNoNewlines, all_weaker, all_both, all_from, all_to}
 use Rattle.parser.proofs.ManyNumbers.{AreSmall}
-use Rattle.parser.proofs.Numbers.{decimal_digits}
+use Rattle.parser.proofs.Addresses.{address_plain}
+use Rattle.parser.proofs.Numbers.{IsPlain, number_plain}
 use Rattle.parser.proofs.Places.{space}
+use Rattle.parser.proofs.WordPlaces.{HasNoSpace}
 use Rattle.parser.proofs.Operands.{AreFew, bounds_in}
+use Rattle.parser.proofs.ActorsAndOrders.{text_plain}
 use Rattle.parser.proofs.HeapLines.{SpellsSizes}
-
--- each byte of a word is above the space: none is a space or a newline
-abbrev pub IsPlain : List ℕ → Type 0
-IsPlain w = list_all (λ b. nat_lt 32 b) w ≡ true
 
 pub no_spaces : (w : List ℕ) → IsPlain w → AllByRecursion (λ b. space b ≡ false) w
 no_spaces [] h = tt
@@ -43,12 +39,16 @@ no_spaces (b ∷ bs) h =
     (no, no_spaces bs p.1)
 
 -- words without spaces are the parts of their line
+pub spaced_split : (w : List ℕ) (ws : List (List ℕ)) → AllByRecursion HasNoSpace (w ∷ ws)
+    → slice_split space (join_with_byte 32 (w ∷ ws)) ≡ w ∷ ws
+spaced_split w [] h = slice_split_none space w (all_from (λ b. space b ≡ false) w h.0)
+spaced_split w (v ∷ vs) h =
+    slice_split_at space w 32 (join_with_byte 32 (v ∷ vs)) (all_from (λ b. space b ≡ false) w h.0) refl
+    ∙ ap (λ (t : List (List ℕ)). w ∷ t) (spaced_split v vs h.1)
+
 pub words_split : (w : List ℕ) (ws : List (List ℕ)) → IsPlain w → AllByRecursion IsPlain ws
     → slice_split space (join_with_byte 32 (w ∷ ws)) ≡ w ∷ ws
-words_split w [] first h = slice_split_none space w (all_from (λ b. space b ≡ false) w (no_spaces w first))
-words_split w (v ∷ vs) first h =
-    slice_split_at space w 32 (join_with_byte 32 (v ∷ vs)) (all_from (λ b. space b ≡ false) w (no_spaces w first)) refl
-    ∙ ap (λ (t : List (List ℕ)). w ∷ t) (words_split v vs h.0 h.1)
+words_split w ws first h = spaced_split w ws (no_spaces w first, all_weaker IsPlain HasNoSpace no_spaces ws h)
 
 -- ---- newlines
 
@@ -60,12 +60,15 @@ no_newlines (b ∷ bs) h =
     let ne : b ≢ 10 = grind (arith, nat_tests) in
     (ne, no_newlines bs p.1)
 
+pub line_no_newlines : (words : List (List ℕ)) → AllByRecursion HasNoNewlines words → HasNoNewlines (line_of words)
+line_no_newlines [] h = tt
+line_no_newlines (w ∷ []) h = h.0
+line_no_newlines (w ∷ v ∷ words) h =
+    all_both (λ b. b ≢ 10) w (32 ∷ line_of (v ∷ words)) h.0
+    (λ e. absurd (omega arith), line_no_newlines (v ∷ words) h.1)
+
 pub words_no_newlines : (words : List (List ℕ)) → AllByRecursion IsPlain words → HasNoNewlines (line_of words)
-words_no_newlines [] h = tt
-words_no_newlines (w ∷ []) h = no_newlines w h.0
-words_no_newlines (w ∷ v ∷ words) h =
-    let rest = words_no_newlines (v ∷ words) h.1 in
-    all_both (λ b. b ≢ 10) w (32 ∷ line_of (v ∷ words)) (no_newlines w h.0) (λ e. absurd (omega arith), rest)
+words_no_newlines words h = line_no_newlines words (all_weaker IsPlain HasNoNewlines no_newlines words h)
 
 none_end : (line : List ℕ) → HasNoNewlines line → AllByRecursion (λ b. newline b ≡ false) line
 none_end [] h = tt
@@ -87,26 +90,9 @@ lines_split (line ∷ lines) h =
 
 -- ---- words of lines
 
-digits_plain : (ds : List ℕ) → list_all is_digit ds ≡ true → IsPlain ds
-digits_plain [] h = refl
-digits_plain (b ∷ bs) h =
-    let p = and_parts (is_digit b) (list_all is_digit bs) h in
-    let digit = p.0 in
-    let high : nat_lt 32 b ≡ true = grind (arith, nat_tests) in
-    rw high (digits_plain bs p.1)
-
-pub number_plain : (n : ℕ) → n < 2 ^ 64 → IsPlain (decimal n)
-number_plain n h = digits_plain (decimal n) (decimal_digits n h)
-
 pub actor_plain : (sizes : Sizes) (a : Actor) → AreFew sizes → IsActor (config_of sizes []) a → IsPlain (actor_word a)
 actor_plain sizes (Thread t) few h = number_plain t (omega (arith, few.threads.1, h))
 actor_plain sizes (Worker w) few h = number_plain w (omega (arith, few.workers.1, h))
-
-address_plain : (n : ℕ) → n < 2 ^ 64 → IsPlain (address_word (page_in n) (offset_in n))
-address_plain n h =
-    let page = number_plain (page_in n) (omega arith) in
-    let offset = number_plain (offset_in n) (omega arith) in
-    list_all-append (λ b. nat_lt 32 b) (decimal (page_in n)) (46 ∷ decimal (offset_in n)) ∙ (rw (page, offset) refl)
 
 operand_plain : (sizes : Sizes) (kind : Kind) (n : ℕ) → AreFew sizes → IsOperand (bounds_in sizes) kind n
     → AllByRecursion IsPlain (operand_word kind n)
@@ -125,9 +111,6 @@ numbers_plain (n ∷ ns) h = (number_plain n (omega (arith, h.0)), numbers_plain
 more_plain : (some : Bool) (ns : List ℕ) → AreMore some ns → AllByRecursion IsPlain (map decimal ns)
 more_plain false ns is = subst (λ (x : List ℕ). AllByRecursion IsPlain (map decimal x)) (sym is) tt
 more_plain true ns is = numbers_plain ns (all_to (λ n. n < 2 ^ 32) ns is)
-
-text_plain : (verb : Verb) → IsPlain (row_of verb).text
-text_plain verb = grind arith
 
 pub order_plain : (sizes : Sizes) (o : Order) → AreFew sizes → IsOrder (bounds_in sizes) o
     → AllByRecursion IsPlain (order_words o)

@@ -22,7 +22,8 @@ use Rattle.parser.proofs.Ranges.{AreLayouts, config_in_range}
 use Rattle.parser.proofs.Parts.{open_lines}
 use Rattle.parser.proofs.Lists.{all_front, told, filter_told, joined_lines}
 use Rattle.parser.proofs.Lists.{split_lines, all_from, lines_from, HasNoNewlines}
-use Rattle.parser.proofs.ReadIsSpelled.{Said, some_layouts, line_ok}
+use Rattle.parser.proofs.ReadIsSpelled.{line_ok}
+use Rattle.parser.proofs.SaidSoFar.{Said, some_layouts}
 
 -- ---- the end
 

@@ -21,13 +21,13 @@ use Rattle.parser.specs.Reading.{closed, whole, finished, last_line, lines_in, s
 use Rattle.parser.specs.Spelling.{command_line_of, layout_line_of}
 use Rattle.parser.specs.Spelling.{SpellsHeap, Part, One, Times, times_line_of, part_lines, part_commands}
 use Rattle.parser.specs.Spelling.{IsPart, says_something, Spells, IsLayout, IsActor, IsCommand, IsScript}
-use Rattle.parser.proofs.Lists.{IsCons}
+use Rattle.parser.proofs.Lists.{all_back, IsCons}
 use Rattle.parser.proofs.Places.{cons_is}
 use Rattle.parser.proofs.HeapLines.{IsSizes}
 use Rattle.parser.proofs.Ranges.{sizes_in, config_tells}
 use Rattle.parser.proofs.Lines.{lines_cons}
 use Rattle.parser.proofs.Lists.{all_to, all_front, lines_to}
-use Rattle.parser.proofs.Parts.{repeated_length, all_back, all_of_repeated}
+use Rattle.parser.proofs.Parts.{repeated_length, all_of_repeated}
 use Rattle.parser.proofs.Plain.{lines_split}
 use Rattle.parser.proofs.TakenLines.{IsReady, command_taken, times_taken, end_taken, layout_taken, heap_taken}
 

@@ -17,12 +17,12 @@ use Rattle.parser.specs.Spelling.{line_of, actor_word, order_words, times_line_o
 use Rattle.parser.specs.Spelling.{with_newline, Spells, IsCommand, IsScript}
 use Rattle.parser.specs.Spots.{is_sought, is_sought_command, fault_of, fault_at, first_spot, SpellsNone, IsFirstSpot}
 use Rattle.parser.proofs.FirstSpots.{first_from, spot_is, passed, met, no_line, one_line}
-use Rattle.parser.proofs.Lists.{HasNoNewlines, all_from, all_to, all_weaker, all_both, all_front, lines_from, lines_to}
+use Rattle.parser.proofs.Lists.{all_back, HasNoNewlines, all_from, all_to, all_weaker, all_both, all_front, lines_from, lines_to}
 use Rattle.parser.proofs.Operands.{AreFew}
-use Rattle.parser.proofs.Parts.{all_back, all_of_repeated}
+use Rattle.parser.proofs.Parts.{all_of_repeated}
 use Rattle.parser.proofs.Plain.{actor_plain, no_spaces, lines_split}
 use Rattle.parser.proofs.Ranges.{sizes_in, config_tells}
-use Rattle.parser.proofs.ReadIsSpelled.{few_actors}
+use Rattle.parser.proofs.SaidSoFar.{few_actors}
 use Rattle.parser.proofs.SpelledIsRead.{commands_of}
 use Rattle.parser.proofs.SpotCommands.{command_sought, other_start}
 use Rattle.parser.proofs.SpotTexts.{empty_line, heap_none, sought_says}

@@ -20,12 +20,12 @@ use Rattle.parser.specs.Spelling.{Part, One, Times, IsPart, part_lines, part_com
 use Rattle.parser.specs.Spelling.{times_line_of, says_something, SpellsHeap, Spells, IsCommand, IsScript}
 use Rattle.parser.specs.Spots.{is_sought, is_sought_command, first_spot}
 use Rattle.parser.proofs.FirstSpots.{first_from, spot_is, passed, met, no_line}
-use Rattle.parser.proofs.Lists.{all_to, all_front, lines_to}
+use Rattle.parser.proofs.Lists.{all_back, all_to, all_front, lines_to}
 use Rattle.parser.proofs.Operands.{AreFew}
-use Rattle.parser.proofs.Parts.{all_back, all_of_repeated}
+use Rattle.parser.proofs.Parts.{all_of_repeated}
 use Rattle.parser.proofs.Plain.{lines_split}
 use Rattle.parser.proofs.Ranges.{sizes_in, config_tells}
-use Rattle.parser.proofs.ReadIsSpelled.{few_actors}
+use Rattle.parser.proofs.SaidSoFar.{few_actors}
 use Rattle.parser.proofs.SpelledIsRead.{commands_of}
 use Rattle.parser.proofs.SpotCommands.{command_sought, other_start}
 

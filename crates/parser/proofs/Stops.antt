@@ -1,6 +1,6 @@
 -- Where reading stops, and that a text of accepted lines and a line with a fault isn't a script.
 use Rattle.std.proofs.Common.{◌≡◌, ◌≢◌, ℕ, ◌+◌, false, List, [], ◌∷◌, ◌++◌, length, refl, sym, ap, subst, ◌∙◌, arith}
-use Rattle.std.proofs.Common.{inl, inr, append-nil, append_assoc, ◌<◌, ◌≤◌, true, length-append}
+use Rattle.std.proofs.Common.{inl, inr, append-nil, append_assoc, ◌≤◌, length-append}
 use Rattle.std.specs.Prelude.{Result, Ok, Err, ◌==◌, ◌⊎◌, filter}
 use Rattle.std.proofs.lemmas.Bool.Decides.{nat_tests}
 use Rattle.parser.specs.declared.fault.FaultKind.TheVariants as kinds
@@ -11,14 +11,15 @@ use Rattle.parser.specs.Reading.{nothing, newline, script_in}
 use Rattle.parser.specs.Spelling.{says_something, Spells, IsScript}
 use Rattle.parser.proofs.Lists.{IsCons, told, filter_told, split_cons, HasNoNewlines, all_front, all_push}
 use Rattle.parser.proofs.Lines.{lines_cons}
-use Rattle.parser.proofs.ReadIsSpelled.{Said, line_ok}
+use Rattle.parser.proofs.ReadIsSpelled.{line_ok}
+use Rattle.parser.proofs.SaidSoFar.{Said}
 use Rattle.parser.proofs.ScriptIsSpelled.{pick_false, never}
 use Rattle.std.specs.List.{AllByRecursion, slice_split, onto_first}
 use Rattle.std.proofs.lemmas.List.Splits.{slice_split_at, slice_split-cons_yes, slice_split-cons_no}
 use Rattle.parser.specs.Faults.{text_of, BeginsScript, IsWordEnd, byte_behind}
 use Rattle.parser.proofs.Plain.{none_ends}
-use Rattle.parser.proofs.Alike.{IsLate, alike_spaced}
-use Rattle.parser.proofs.AlikeLines.{line_taken}
+use Rattle.parser.proofs.Alike.{alike_spaced}
+use Rattle.parser.proofs.LineTrees.{line_same}
 use Rattle.parser.proofs.SpelledIsRead.{spelled_is_read}
 
 -- the lines are accepted one after another, and lead from what was read to what is read then
@@ -240,15 +241,12 @@ never_behind_line before line t flaw each own leads wrong begins =
 -- a line whose word before a space has a fault
 never_behind_word : (before : List (List ℕ)) (front back : List ℕ) (t : ReadSoFar) (flaw : Flaw)
     → AllByRecursion HasNoNewlines before → HasNoNewlines front → Leads before nothing t
-    → (t.begun ≡ true → 1 ≤ length t.layouts) → line_in t (front ++ 32 ∷ back) ≡ Err flaw
-    → flaw.column ≤ length front + 1 → BeginsScript (text_of before ++ (front ++ 32 ∷ [])) → ⊥
-never_behind_word before front back t flaw each own leads started wrong early begins =
+    → line_in t (front ++ 32 ∷ back) ≡ Err flaw → flaw.column ≤ length front + 1 → BeginsScript (text_of before ++ (front ++ 32 ∷ [])) → ⊥
+never_behind_word before front back t flaw each own leads wrong early begins =
     let spaced = front ++ 32 ∷ [] in
     let cut = split_cons newline begins.more in
-    let taken = line_taken (length front + 1) (front ++ 32 ∷ back) (front ++ 32 ∷ cut.first)
-    (alike_spaced front back cut.first) t started in
-    let same = told_same (length front + 1) (front ++ 32 ∷ back) (line_in t (front ++ 32 ∷ back))
-    (line_in t (front ++ 32 ∷ cut.first)) flaw taken.same wrong early in
+    let same = line_same (length front + 1) (front ++ 32 ∷ back) (front ++ 32 ∷ cut.first)
+    (alike_spaced front back cut.first) t flaw (omega arith) early wrong in
     let line_is : spaced ++ cut.first ≡ front ++ 32 ∷ cut.first = append_assoc front (32 ∷ []) cut.first in
     let spaced_own : HasNoNewlines spaced = all_push (λ b. b ≢ 10) front 32 own (λ e. absurd (omega arith)) in
     not_read before spaced begins.more cut.first cut.others t flaw begins.script each spaced_own leads cut.is
@@ -256,22 +254,14 @@ never_behind_word before front back t flaw each own leads started wrong early be
     (subst (λ (x : List ℕ). (length x == 0) ≡ false) (sym line_is) (some_line front cut.first 32))
     begins.valid (subst (λ (x : List ℕ). Spells x begins.script) (append_assoc (text_of before) spaced begins.more)
     begins.spelled)
-  where
-    told_same : (n : ℕ) (line : List ℕ) (r other : Result ReadSoFar Flaw) (flaw : Flaw)
-        → (r ≡ other) ⊎ IsLate (λ (t : ReadSoFar). length line + 1) n r → r ≡ Err flaw → flaw.column ≤ n
-        → other ≡ Err flaw
-    told_same n line r other flaw (inl same) is early = sym same ∙ is
-    told_same n line r other flaw (inr late) is early =
-        let behind : n < flaw.column = subst (IsLate (λ (t : ReadSoFar). length line + 1) n) is late in
-        absurd (omega arith)
 
 -- up to the end of a word with a fault, and the byte after it, bytes begin no script
 pub never_begins : (before : List (List ℕ)) (line front word back : List ℕ) (t : ReadSoFar) (flaw : Flaw)
     → AllByRecursion HasNoNewlines before → HasNoNewlines line → Leads before nothing t
-    → (t.begun ≡ true → 1 ≤ length t.layouts) → line_in t line ≡ Err flaw → line ≡ front ++ (word ++ back)
+    → line_in t line ≡ Err flaw → line ≡ front ++ (word ++ back)
     → IsWordEnd back → flaw.column ≡ length front + 1
     → BeginsScript (text_of before ++ (front ++ (word ++ byte_behind back ∷ []))) → ⊥
-never_begins before line front word back t flaw each own leads started wrong is (inl none) column begins =
+never_begins before line front word back t flaw each own leads wrong is (inl none) column begins =
     let same : line ≡ front ++ word = is ∙ ap (λ (x : List ℕ). front ++ (word ++ x)) none
     ∙ ap (λ (x : List ℕ). front ++ x) (append-nil word) in
     let bytes : text_of before ++ (front ++ (word ++ byte_behind back ∷ [])) ≡ text_of before ++ (line ++ 10 ∷ []) =
@@ -279,7 +269,7 @@ never_begins before line front word back t flaw each own leads started wrong is 
     ∙ ap (λ (x : List ℕ). text_of before ++ x) (sym (append_assoc front word (10 ∷ [])))
     ∙ ap (λ (x : List ℕ). text_of before ++ (x ++ 10 ∷ [])) (sym same) in
     never_behind_line before line t flaw each own leads wrong (subst BeginsScript bytes begins)
-never_begins before line front word back t flaw each own leads started wrong is (inr more) column begins =
+never_begins before line front word back t flaw each own leads wrong is (inr more) column begins =
     let same : line ≡ (front ++ word) ++ 32 ∷ more.0 =
     is ∙ ap (λ (x : List ℕ). front ++ (word ++ x)) more.1 ∙ sym (append_assoc front word (32 ∷ more.0)) in
     let bytes : text_of before ++ (front ++ (word ++ byte_behind back ∷ []))
@@ -289,5 +279,5 @@ never_begins before line front word back t flaw each own leads started wrong is 
     let long = length-append front word in
     let front_own : HasNoNewlines (front ++ word) =
     all_front (λ b. b ≢ 10) (front ++ word) (32 ∷ more.0) (subst HasNoNewlines same own) in
-    never_behind_word before (front ++ word) more.0 t flaw each front_own leads started
+    never_behind_word before (front ++ word) more.0 t flaw each front_own leads
     (subst (λ (x : List ℕ). line_in t x ≡ Err flaw) same wrong) (omega arith) (subst BeginsScript bytes begins)

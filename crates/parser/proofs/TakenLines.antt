@@ -28,9 +28,11 @@ use Rattle.parser.proofs.Places.{words_from, words_whole, space, cons_is}
 use Rattle.parser.proofs.Places.{number_again, end_again}
 use Rattle.parser.proofs.Operands.{AreFew}
 use Rattle.parser.proofs.ActorsAndOrders.{order_again, actor_again}
-use Rattle.parser.proofs.HeapLines.{IsSizes, SpellsSizes, heap_again, layout_again}
-use Rattle.parser.proofs.ReadIsSpelled.{first_words, few_actors}
-use Rattle.parser.proofs.Plain.{IsPlain, words_split, number_plain, actor_plain, order_plain, sizes_plain}
+use Rattle.parser.proofs.HeapLines.{IsSizes, SpellsSizes, heap_again}
+use Rattle.parser.proofs.LayoutLines.{layout_again}
+use Rattle.parser.proofs.SaidSoFar.{first_words, few_actors}
+use Rattle.parser.proofs.Numbers.{IsPlain, number_plain}
+use Rattle.parser.proofs.Plain.{words_split, actor_plain, order_plain, sizes_plain}
 
 -- a line of plain words has this first word and these after it
 pub record HasWords (line w : List ℕ) (ws : List (List ℕ)) : Type 0 where
