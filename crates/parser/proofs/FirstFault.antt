@@ -24,8 +24,8 @@ use Rattle.parser.proofs.Lists.{HasNoNewlines, all_from, all_front, all_push, sp
 use Rattle.parser.proofs.Lists.{filter_told}
 use Rattle.parser.proofs.ReadIsSpelled.{line_ok}
 use Rattle.parser.proofs.SaidSoFar.{IsBehind, Said, some_layouts}
-use Rattle.parser.proofs.SpelledIsRead.{spelled_is_read}
-use Rattle.parser.proofs.Stops.{Leads, leads_said, IsWrong, IsMissing, IsUnended, StopsAt, stops}
+use Rattle.parser.proofs.SpelledIsRead.{Leads, spelled_is_read}
+use Rattle.parser.proofs.Stops.{leads_said, IsWrong, IsMissing, IsUnended, StopsAt, stops}
 use Rattle.parser.proofs.Completions.{open_ends, not_started, taken_have_none}
 use Rattle.parser.proofs.LineFaults.{fault_placed}
 use Rattle.parser.proofs.RightUpTo.{right_up_to}

@@ -1,10 +1,11 @@
 -- The heap line and the layout lines: what is read is spelled so, and what is spelled so is read.
 use Rattle.std.proofs.Common.{◌≡◌, ℕ, ◌^◌, ◌<◌, ◌≤◌, cond, true, false, List, [], ◌∷◌, ◌++◌}
 use Rattle.std.proofs.Common.{Option, Some, None, refl, sym, ap, subst, ◌∙◌, arith, inl, inr, lit<, lit≤, append-nil}
-use Rattle.std.specs.Prelude.{Result, Ok, Err, not, codes, Bool}
+use Rattle.std.specs.Prelude.{Result, Ok, Err, not, codes}
 use Rattle.std.specs.Str.{bytes_eq}
 use Rattle.std.specs.Fmt.{decimal}
 use Rattle.std.proofs.lemmas.Slice.Eq.{bytes_eq-Decides}
+use Rattle.std.proofs.lemmas.Bool.{not-false}
 use Rattle.model.specs.Configs.{is_page_size}
 use Rattle.model.proofs.Ranges.{page_size_range}
 use Rattle.parser.specs.declared.fault.FaultKind.TheVariants as kinds
@@ -12,7 +13,7 @@ use Rattle.parser.specs.declared.fault.Flaw.{Flaw}
 use Rattle.parser.specs.declared.heading.Sizes.{Sizes}
 use Rattle.model.specs.declared.limits.TheConstants.{MOST_PAGES}
 use Rattle.parser.specs.declared.limits.TheConstants.{MOST_FRAMES, MOST_THREADS}
-use Rattle.parser.specs.Words.{◌>>=◌, flaw, word_at, fixed_at, is_number, number_at}
+use Rattle.parser.specs.Words.{◌>>=◌, flaw, word_at, fixed_at, number_at}
 use Rattle.parser.specs.Headings.{config_of, field_at, page_size_at, limit_in, limit_at}
 use Rattle.parser.specs.Headings.{sizes_of, memory_at, actors_at, limits_at, sizes_at, heap_in}
 use Rattle.parser.specs.Spelling.{size_words, SpellsLimit}
@@ -22,6 +23,7 @@ use Rattle.parser.proofs.Places.{fixed_again, number_again, end_again}
 use Rattle.parser.proofs.WordPlaces.{none_past}
 use Rattle.parser.proofs.Trees.{EndsAt, Tree, Done, Fail, Look, Skip, word_in, behind_in, run, chain, chained, IsSound}
 use Rattle.parser.proofs.Trees.{IsGood, good_chain}
+use Rattle.parser.proofs.WordTrees.{run_pick, sound_pick}
 use Rattle.parser.proofs.WordTrees.{Any, IsLast, bind_assoc, fail_run, past_run, past_sound}
 use Rattle.parser.proofs.WordTrees.{weaker, good_map, fixed_tree, fixed_run, fixed_good, IsText, number_or, number_tree}
 use Rattle.parser.proofs.WordTrees.{number_or_run, number_run, number_or_sound, number_good, IsNumberOf}
@@ -102,12 +104,8 @@ size_tree = number_or 16 32768 sized
 
 sized_run : (line : List ℕ) (at n : ℕ) (w : List ℕ × ℕ) → word_at line at ≡ Some w → run (sized n) line at
     ≡ cond (not (is_page_size n)) (Err (flaw at kinds.NumberOutOfRange)) (Ok (n, w.1))
-sized_run line at n w e = by_test (not (is_page_size n))
-  where
-    by_test : (b : Bool) → run (cond b (Fail kinds.NumberOutOfRange) (Skip (Done n))) line at
-        ≡ cond b (Err (flaw at kinds.NumberOutOfRange)) (Ok (n, w.1))
-    by_test true = fail_run {A = ℕ} line at kinds.NumberOutOfRange w e
-    by_test false = past_run line at n w e
+sized_run line at n w e = run_pick line at (not (is_page_size n)) (Fail kinds.NumberOutOfRange) (Skip (Done n)) _ _
+    (fail_run {A = ℕ} line at kinds.NumberOutOfRange w e) (past_run line at n w e)
 
 abbrev page_size_tree : Tree ℕ
 page_size_tree = chain (fixed_tree (codes "words")) (λ u. size_tree)
@@ -141,14 +139,11 @@ size_good = record {
           a.2,
         );
   };
-  sound = λ c. number_or_sound Any IsSize false 16 32768 sized (lit< tt) (λ n w number is.
-      by_test n w number is.words_are (is_page_size n) refl);
+  sound = λ c. number_or_sound Any IsSize false c 16 32768 sized (lit< tt) (λ n w number is.
+      sound_pick Any IsSize false (Some (Some w)) (not (is_page_size n)) (Fail kinds.NumberOutOfRange) (Skip (Done n))
+      (λ e front start. inl number) (λ e. past_sound Any IsSize false w n
+      (record { words_are = is.words_are; size = not-false (is_page_size n) e })));
 }
-  where
-    by_test : (n : ℕ) (w : List ℕ) → is_number w ≡ true → w ∷ [] ≡ decimal n ∷ [] → (b : Bool) → is_page_size n ≡ b
-        → IsSound Any IsSize false (Some (Some w)) (cond (not b) (Fail kinds.NumberOutOfRange) (Skip (Done n)))
-    by_test n w number is true e = past_sound Any IsSize false w n (record { words_are = is; size = e })
-    by_test n w number is false e = λ front start. inl number
 
 page_size_good : IsGood Any IsPageSize page_size_tree
 page_size_good = after_good (codes "words") size_tree IsSize IsPageSize refl (λ n ws is.
@@ -173,17 +168,12 @@ limit_run : (line : List ℕ) (name : List ℕ) (most at : ℕ)
 unfolding limit_at
 limit_run line name most at = by_word (word_at line at) refl
   where
-    by_test : (w : List ℕ × ℕ) → word_at line at ≡ Some w → (b : Bool)
-        → run (cond b (Skip (number_tree 1 most)) (Done most)) line at
-        ≡ cond b (number_at line w.1 1 most) (Ok (most, at))
-    by_test w e true =
-        ap (λ (o : Option (List ℕ × ℕ)). run (number_tree 1 most) line (behind_in at o)) e ∙ number_run line w.1 1 most
-    by_test w e false = refl
-
     by_word : (o : Option (List ℕ × ℕ)) → word_at line at ≡ o
         → run (limit_or name most (word_in o)) line at ≡ limit_in line at name most o
     by_word None e = refl
-    by_word (Some w) e = by_test w e (bytes_eq w.0 name)
+    by_word (Some w) e = run_pick line at (bytes_eq w.0 name) (Skip (number_tree 1 most)) (Done most) _ _
+        (ap (λ (o : Option (List ℕ × ℕ)). run (number_tree 1 most) line (behind_in at o)) e
+        ∙ number_run line w.1 1 most) refl
 
 -- the words don't begin with this name
 abbrev IsNotHeaded : List ℕ → List (List ℕ) → Type 0
@@ -247,14 +237,10 @@ limit_good name most plain low fits = record {
           );
         }) (number_good 1 most low fits)
 
-    by_test : (w : List ℕ) (b : Bool) → bytes_eq w name ≡ b → IsSound Any (IsLimit name most) false (Some (Some w))
-        (cond b (Skip (number_tree 1 most)) (Done most))
-    by_test w true e = let g = named w e in (g.lives, g.sound None)
-    by_test w false e = omitted
-
     by_word : (o : Option (List ℕ)) → IsSound Any (IsLimit name most) false (Some o) (limit_or name most o)
     by_word None = omitted
-    by_word (Some w) = by_test w (bytes_eq w name) refl
+    by_word (Some w) = sound_pick Any (IsLimit name most) false (Some (Some w)) (bytes_eq w name)
+        (Skip (number_tree 1 most)) (Done most) (λ e. let g = named w e in (g.lives, g.sound None)) (λ e. omitted)
 
 -- ---- the heap line
 

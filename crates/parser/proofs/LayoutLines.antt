@@ -9,13 +9,15 @@ use Rattle.model.proofs.Results.{same_result, not_refused}
 use Rattle.parser.specs.declared.fault.FaultKind.TheVariants as kinds
 use Rattle.parser.specs.declared.fault.Flaw.{Flaw}
 use Rattle.parser.specs.declared.heading.Sizes.{Sizes}
-use Rattle.parser.specs.Words.{◌>>=◌, flaw, word_at, is_number, number_at, end_at}
+use Rattle.parser.specs.Words.{◌>>=◌, flaw, word_at, number_at, end_at}
 use Rattle.parser.specs.Headings.{layout_in}
 use Rattle.parser.specs.Spelling.{IsLayout}
 use Rattle.parser.proofs.Places.{words_from}
-use Rattle.parser.proofs.Places.{bind_ok, number_ok, number_again, end_ok, end_again}
+use Rattle.parser.proofs.Places.{bind_ok, number_again, end_ok, end_again}
 use Rattle.parser.proofs.Trees.{Tree, Done, Fail, Skip, behind_in, run, chain, chained, Lives, IsSound}
 use Rattle.parser.proofs.Trees.{IsGood, good_chain, bind_same}
+use Rattle.parser.proofs.WordTrees.{number_ok}
+use Rattle.parser.proofs.WordTrees.{run_pick, sound_pick}
 use Rattle.parser.proofs.WordTrees.{Any, bind_assoc, fail_run}
 use Rattle.parser.proofs.WordTrees.{number_or, number_tree}
 use Rattle.parser.proofs.WordTrees.{number_or_run, number_run, number_or_sound, number_good, IsNumberOf, end_tree}
@@ -37,11 +39,9 @@ layout_ok sizes line at l h =
     let e = bind_ok (end_at line n.0.1) _ l g.1 in
     let refs = number_ok line at 0 1023 r.0 (lit< tt) r.1 in
     let nums = number_ok line r.0.1 0 1023 n.0 (lit< tt) n.1 in
-    let last = end_ok line n.0.1 e.0 e.1 in
     subst (λ (x : Layout). IsLayoutAt sizes.words line at x) (same_result _ l e.2) (record {
-      spelled = refs.spelled ∙ ap (λ (t : List (List ℕ)). decimal r.0.0 ∷ t)
-          (nums.spelled ∙ ap (λ (t : List (List ℕ)). decimal n.0.0 ∷ t) last);
-      is = record { refs = omega (arith, refs.below); nums = omega (arith, nums.below) };
+      spelled = refs.spelled ∙ rw (refs.is.words_are, nums.spelled, nums.is.words_are, end_ok line n.0.1 e.0 e.1) refl;
+      is = record { refs = refs.is.below; nums = nums.is.below };
       room = ltb-false sizes.words (1 + r.0.0 + n.0.0) g.0;
     })
 
@@ -78,14 +78,11 @@ nums_at words line refs at nums = cond (nat_lt words (1 + refs + nums.0)) (Err (
 
 nums_run : (words refs : ℕ) (line : List ℕ) (at n : ℕ) (w : List ℕ × ℕ) → word_at line at ≡ Some w
     → run (nums_tree words refs n) line at ≡ nums_at words line refs at (n, w.1)
-nums_run words refs line at n w e = by_test (nat_lt words (1 + refs + n))
-  where
-    by_test : (b : Bool) → run (cond b (Fail kinds.LayoutTooLarge) (Skip (layout_end refs n))) line at
-        ≡ cond b (Err (flaw at kinds.LayoutTooLarge)) (end_at line w.1 >>= (λ u. Ok (layout_of refs n, w.1)))
-    by_test true = fail_run {A = Layout} line at kinds.LayoutTooLarge w e
-    by_test false = ap (λ (o : Option (List ℕ × ℕ)). run (layout_end refs n) line (behind_in at o)) e
-        ∙ chained end_tree (λ u. Done (layout_of refs n)) line w.1 _ (λ u. Ok (layout_of refs n, u.1)) (end_run line w.1)
-        (λ u. refl) ∙ bind_assoc (end_at line w.1) _ _
+nums_run words refs line at n w e = run_pick line at (nat_lt words (1 + refs + n)) (Fail kinds.LayoutTooLarge)
+    (Skip (layout_end refs n)) _ _ (fail_run {A = Layout} line at kinds.LayoutTooLarge w e)
+    (ap (λ (o : Option (List ℕ × ℕ)). run (layout_end refs n) line (behind_in at o)) e
+    ∙ chained end_tree (λ u. Done (layout_of refs n)) line w.1 _ (λ u. Ok (layout_of refs n, u.1)) (end_run line w.1)
+    (λ u. refl) ∙ bind_assoc (end_at line w.1) _ _)
 
 pub layout_run : (sizes : Sizes) (line : List ℕ) (at : ℕ)
     → values (run (layout_tree sizes.words) line at) ≡ layout_in sizes line at
@@ -112,8 +109,10 @@ layout_good May never words = good_chain Any May (λ refs. number_or 0 1023 (num
     (number_good 0 1023 (omega arith) (lit< tt)) (record {
       good = λ refs ws is. record {
         lives = dead (number_or 0 1023 (nums_tree words refs));
-        sound = λ c. number_or_sound May (λ (l : Layout) (ws : List (List ℕ)). Unit {0}) false 0 1023
-            (nums_tree words refs) (lit< tt) (λ n w number is. by_test refs n w number (nat_lt words (1 + refs + n)));
+        sound = λ c. number_or_sound May (λ (l : Layout) (ws : List (List ℕ)). Unit {0}) false c 0 1023
+            (nums_tree words refs) (lit< tt) (λ n w number is. sound_pick May _ false (Some (Some w))
+            (nat_lt words (1 + refs + n)) (Fail kinds.LayoutTooLarge) (Skip (layout_end refs n))
+            (λ e front start. number) (λ e. (dead (layout_end refs n), by_layout refs n)));
       };
       follows = λ refs ws is rest may. tt;
     })
@@ -127,14 +126,8 @@ layout_good May never words = good_chain Any May (λ refs. number_or 0 1023 (num
       reads = λ line at rest may e. absurd (never rest may);
     }
 
-    by_test : (refs n : ℕ) (w : List ℕ) → is_number w ≡ true → (b : Bool)
-        → IsSound May (λ (l : Layout) (ws : List (List ℕ)). Unit {0}) false (Some (Some w))
-        (cond b (Fail kinds.LayoutTooLarge) (Skip (layout_end refs n)))
-    by_test refs n w number true = λ front start. number
-    by_test refs n w number false = (dead (layout_end refs n), λ o. by_layout refs n o)
-      where
-        by_layout : (refs n : ℕ) (o : Option (List ℕ))
-            → IsSound May (λ (l : Layout) (ws : List (List ℕ)). Unit {0}) false (Some o)
-            (chain (end_in o) (λ u. Done (layout_of refs n)))
-        by_layout refs n None = tt
-        by_layout refs n (Some w) = λ front start. start
+    by_layout : (refs n : ℕ) (o : Option (List ℕ))
+        → IsSound May (λ (l : Layout) (ws : List (List ℕ)). Unit {0}) false (Some o)
+        (chain (end_in o) (λ u. Done (layout_of refs n)))
+    by_layout refs n None = tt
+    by_layout refs n (Some w) = λ front start. start

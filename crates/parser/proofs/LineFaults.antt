@@ -29,12 +29,14 @@ use Rattle.parser.proofs.ActorsAndOrders.{line_is}
 use Rattle.parser.proofs.Alike.{IsFaultAt}
 use Rattle.parser.proofs.HeapLines.{heap_ends, IsSizes, SpellsSizes, heap_tree, heap_good}
 use Rattle.parser.proofs.LayoutLines.{layout_tree, layout_good}
-use Rattle.parser.proofs.LineTrees.{line_run, layout_step, times_step, end_step, order_from, order_step, command_step}
+use Rattle.parser.proofs.LineTrees.{line_run, heap_step, layout_step, times_step, end_step, order_step, command_step}
 use Rattle.parser.proofs.LineTrees.{line_step, fault_of}
 use Rattle.parser.proofs.OrderTrees.{verb_tree, operands_tree, IsOrderOf, order_tree, order_good}
 use Rattle.parser.proofs.SaidSoFar.{Said, few_actors, some_layouts}
 use Rattle.parser.proofs.OtherLines.{IsOtherLine, is_layout_next}
 use Rattle.parser.proofs.Trees.{EndsAt, ends_chain, ends_map, run, run_ok, run_end, Tree, Done, Fail, Skip, word_in, chain, IsSound, IsGood, run_wrong}
+use Rattle.parser.proofs.WordTrees.{sound_pick}
+use Rattle.parser.proofs.LineTrees.{later_step}
 use Rattle.parser.proofs.WordTrees.{Any, IsLast, good_map, narrower, name_in, name_sound, number_tree, number_good, IsNumberOf}
 use Rattle.parser.proofs.WordTrees.{end_ends_at, whole_ends, values, end_tree, end_good, whole_tree, whole_good}
 
@@ -74,19 +76,25 @@ same_line : (v w : List ℕ) (vs ws : List (List ℕ)) → w ≡ v → ws ≡ vs
 same_line v w vs ws e d = ap (λ (x : List ℕ). line_of (x ∷ ws)) e ∙ ap (λ (xs : List (List ℕ)). line_of (v ∷ xs)) d
 
 module _ (r : ReadSoFar) (w : List ℕ) where
+  -- a tree of a line from its first word on
+  abbrev IsStep : Option Sizes → Tree ReadSoFar → Type 0
+  IsStep o t = IsSound (Ends r w) (Says r o w) true (Some (Some w)) t
+
+  pick : (o : Option Sizes) (b : Bool) (t u : Tree ReadSoFar) → (b ≡ true → IsStep o t) → (b ≡ false → IsStep o u)
+      → IsStep o (cond b t u)
+  pick o b t u = sound_pick (Ends r w) (Says r o w) true (Some (Some w)) b t u
+
   -- a line's first word is followed by what is read after it
   past : {A : Type 0} (o : Option Sizes) (P : A → List (List ℕ) → Type 0) (t : Tree A) (f : A → ReadSoFar)
       → IsGood IsLast P t → ((x : A) (ws : List (List ℕ)) → P x ws → IsOtherLine o r (f x) (line_of (w ∷ ws)))
-      → IsSound (Ends r w) (Says r o w) true (Some (Some w)) (Skip (chain t (λ x. Done (f x))))
+      → IsStep o (Skip (chain t (λ x. Done (f x))))
   past o P t f g h =
       let all = good_map (Ends r w) P (λ (u : ReadSoFar) ws. Says r o w u (w ∷ ws)) f t (λ x ws p other. h x ws p)
       (narrower IsLast (Ends r w) (λ rest may. may.1) P t g) in
       (all.lives, all.sound None)
 
-  heap_sound : r ≡ nothing → (b : Bool) → bytes_eq w (codes "heap") ≡ b → IsSound (Ends r w) (Says r None w) true
-      (Some (Some w)) (cond b (Skip (chain heap_tree (λ sizes. Done (record r { sizes = Some sizes }))))
-      (Fail kinds.HeapLineExpected))
-  heap_sound is true e =
+  heap_sound : r ≡ nothing → IsStep None (heap_step r w)
+  heap_sound is = pick None (bytes_eq w (codes "heap")) _ _ (λ e.
       past None SpellsSizes heap_tree (λ sizes. record r { sizes = Some sizes }) heap_good (λ z ws spelled. record {
         sizes = z;
         first = is;
@@ -99,11 +107,9 @@ module _ (r : ReadSoFar) (w : List ℕ) where
         };
         range = spelled.range;
         then = refl;
-      })
-  heap_sound is false e = λ front start. (start, other_word w (codes "heap") e)
+      })) (λ e front start. (start, other_word w (codes "heap") e))
 
-  layout_sound : (z : Sizes) → is_layout_next r w ≡ true
-      → IsSound (Ends r w) (Says r (Some z) w) true (Some (Some w)) (layout_step r z)
+  layout_sound : (z : Sizes) → is_layout_next r w ≡ true → IsStep (Some z) (layout_step r z)
   layout_sound z e =
       let never = λ (rest : List (List ℕ)) (may : Ends r w rest). let no = may.0 in absurd cc in
       let all = good_map (Ends r w) (λ (l : Layout) (ws : List (List ℕ)). Unit {0})
@@ -112,8 +118,7 @@ module _ (r : ReadSoFar) (w : List ℕ) where
       (all.lives, all.sound None)
 
   module _ (z : Sizes) (range : IsSizes z) (some : 1 ≤ length r.layouts) where
-    times_sound : w ≡ codes "times" → (o : Option ℕ) → r.turns ≡ o
-        → IsSound (Ends r w) (Says r (Some z) w) true (Some (Some w)) (times_step r o)
+    times_sound : w ≡ codes "times" → (o : Option ℕ) → r.turns ≡ o → IsStep (Some z) (times_step r o)
     times_sound first (Some turns) is = λ front start. tt
     times_sound first None is = past (Some z) (IsNumberOf 1 MOST_TURNS) (whole_tree (number_tree 1 MOST_TURNS))
         (λ n. record r { begun = true; turns = Some n; body = [] })
@@ -131,36 +136,27 @@ module _ (r : ReadSoFar) (w : List ℕ) where
           })),
         ))
 
-    end_sound : w ≡ codes "end" → (o : Option ℕ) → r.turns ≡ o
-        → IsSound (Ends r w) (Says r (Some z) w) true (Some (Some w)) (end_step r o)
+    end_sound : w ≡ codes "end" → (o : Option ℕ) → r.turns ≡ o → IsStep (Some z) (end_step r o)
     end_sound first None is = λ front start. (start, first)
     end_sound first (Some turns) is =
-        by_test (nat_lt MOST_COMMANDS (length r.commands + turns * length r.body)) refl
-      where
-        done : ReadSoFar
-        done = record r { commands = r.commands ++ repeat turns r.body; turns = None; body = [] }
-
-        by_test : (b : Bool) → nat_lt MOST_COMMANDS (length r.commands + turns * length r.body) ≡ b
-            → IsSound (Ends r w) (Says r (Some z) w) true (Some (Some w))
-            (cond b (Fail kinds.TooManyCommands) (Skip (chain end_tree (λ u. Done done))))
-        by_test true e = λ front start. start
-        by_test false e = past (Some z) _ end_tree (λ u. done) end_good (λ u ws none. (
+        let count = length r.commands + turns * length r.body in
+        let done : ReadSoFar = record r { commands = r.commands ++ repeat turns r.body; turns = None; body = [] } in
+        pick (Some z) (nat_lt MOST_COMMANDS count) (Fail kinds.TooManyCommands) (Skip (chain end_tree (λ u. Done done)))
+        (λ e front start. start) (λ e. past (Some z) _ end_tree (λ u. done) end_good (λ u ws none. (
           some,
           inr (record {
             turns = turns;
             line_is = same_line (codes "end") w [] ws first none;
             opened = is;
-            room = ltb-false MOST_COMMANDS (length r.commands + turns * length r.body) e;
+            room = ltb-false MOST_COMMANDS count e;
             then = refl;
           }),
-        ))
+        )))
 
-    order_sound : (most : ℕ) (actor : Actor) → w ≡ actor_word actor → IsActor (config_of z []) actor → (b : Bool)
-        → is_full r.turns r.commands ≡ b → IsSound (Ends r w) (Says r (Some z) w) true (Some (Some w))
-        (cond b (Fail kinds.TooManyCommands) (Skip (order_from most r z actor)))
-    order_sound most actor first there true full = λ front start. start
-    order_sound most actor first there false room =
-        past (Some z) (IsOrderOf z actor) (order_tree z most actor) (λ o. with_command r r.turns
+    order_sound : (most : ℕ) (actor : Actor) → w ≡ actor_word actor → IsActor (config_of z []) actor
+        → IsStep (Some z) (order_step most r z actor)
+    order_sound most actor first there = pick (Some z) (is_full r.turns r.commands) _ _ (λ full front start. start)
+        (λ room. past (Some z) (IsOrderOf z actor) (order_tree z most actor) (λ o. with_command r r.turns
         (record { actor = actor; order = o })) (order_good z most (few_actors z range) actor)
         (λ o ws order. (
           some,
@@ -171,48 +167,36 @@ module _ (r : ReadSoFar) (w : List ℕ) where
             room = room;
             then = refl;
           })),
-        ))
+        )))
 
-    command_sound : (most : ℕ) (b : Bool) → IsSound (Ends r w) (Says r (Some z) w) true (Some (Some w)) (cond b
-        (name_in 119 z.workers kinds.NoSuchActor (λ n. order_step most r z (Worker n)) w)
-        (name_in 116 z.threads kinds.NoSuchActor (λ n. order_step most r z (Thread n)) w))
-    command_sound most true = name_sound (Ends r w) (Says r (Some z) w) true 119 z.workers kinds.NoSuchActor
+    command_sound : (most : ℕ) → IsStep (Some z) (command_step most r z w)
+    command_sound most = pick (Some z) (first_byte w == 119) _ _
+        (λ e. name_sound (Ends r w) (Says r (Some z) w) true 119 z.workers kinds.NoSuchActor
         (λ n. order_step most r z (Worker n)) (omega (arith, (few_actors z range).workers.1))
         (λ front digits start number. inr (start, (digits, (refl, number)))) w
-        (λ n is. order_sound most (Worker n) (head_is is.words_are) is.below (is_full r.turns r.commands) refl)
-    command_sound most false = name_sound (Ends r w) (Says r (Some z) w) true 116 z.threads kinds.NoSuchActor
+        (λ n is. order_sound most (Worker n) (head_is is.words_are) is.below))
+        (λ e. name_sound (Ends r w) (Says r (Some z) w) true 116 z.threads kinds.NoSuchActor
         (λ n. order_step most r z (Thread n)) (omega (arith, (few_actors z range).threads.1))
         (λ front digits start number. inl (digits, (refl, number))) w
-        (λ n is. order_sound most (Thread n) (head_is is.words_are) is.below (is_full r.turns r.commands) refl)
+        (λ n is. order_sound most (Thread n) (head_is is.words_are) is.below))
 
-    part_sound : (most : ℕ) (b c : Bool) → bytes_eq w (codes "times") ≡ b → bytes_eq w (codes "end") ≡ c
-        → IsSound (Ends r w) (Says r (Some z) w) true (Some (Some w)) (cond b (times_step r r.turns)
-        (cond c (end_step r r.turns) (command_step most r z w)))
-    part_sound most true c e d = times_sound ((bytes_eq-Decides w (codes "times")).0 e) r.turns refl
-    part_sound most false true e d = end_sound ((bytes_eq-Decides w (codes "end")).0 d) r.turns refl
-    part_sound most false false e d = command_sound most (first_byte w == 119)
-
-  later_sound : (most : ℕ) (z : Sizes) → IsSizes z → (r.begun ≡ true → 1 ≤ length r.layouts) → (b c : Bool)
-      → (bytes_eq w (codes "layout") && not r.begun && nat_lt (length r.layouts) MOST_LAYOUTS) ≡ b
-      → (length r.layouts == 0) ≡ c → IsSound (Ends r w) (Says r (Some z) w) true (Some (Some w)) (cond b (layout_step r z)
-      (cond c (Fail kinds.LayoutLineExpected) (cond (bytes_eq w (codes "times")) (times_step r r.turns)
-      (cond (bytes_eq w (codes "end")) (end_step r r.turns) (command_step most r z w)))))
-  later_sound most z range started true c e none = layout_sound z e
-  later_sound most z range started false true e none = λ front start. (start, no_layout r w started none e)
-  later_sound most z range started false false e none = part_sound z range (some_layouts r.layouts none) most
-      (bytes_eq w (codes "times")) (bytes_eq w (codes "end")) refl refl
+  later_sound : (most : ℕ) (z : Sizes) → IsSizes z → (r.begun ≡ true → 1 ≤ length r.layouts)
+      → IsStep (Some z) (later_step most r z w)
+  later_sound most z range started = pick (Some z) (is_layout_next r w) _ _ (layout_sound z) (λ e.
+      pick (Some z) (length r.layouts == 0) _ _ (λ none front start. (start, no_layout r w started none e)) (λ none.
+      let some = some_layouts r.layouts none in
+      pick (Some z) (bytes_eq w (codes "times")) _ _
+      (λ is. times_sound z range some ((bytes_eq-Decides w (codes "times")).0 is) r.turns refl)
+      (λ not_times. pick (Some z) (bytes_eq w (codes "end")) _ _
+      (λ is. end_sound z range some ((bytes_eq-Decides w (codes "end")).0 is) r.turns refl)
+      (λ not_end. command_sound z range some most))))
 
   -- a line after lines that are accepted
-  pub line_sound : (most : ℕ) (said : List (List ℕ)) → Said said r
-      → IsSound (Ends r w) (Says r r.sizes w) true (Some (Some w)) (line_step most r r.sizes w)
-  line_sound most said (inl before) =
-      subst (λ (o : Option Sizes). IsSound (Ends r w) (Says r o w) true (Some (Some w)) (line_step most r o w))
-      (sym (ap (λ (x : ReadSoFar). x.sizes) before.is)) (heap_sound before.is (bytes_eq w (codes "heap")) refl)
-  line_sound most said (inr behind) =
-      subst (λ (o : Option Sizes). IsSound (Ends r w) (Says r o w) true (Some (Some w)) (line_step most r o w))
-      (sym behind.sizes_is) (later_sound most behind.sizes behind.range
-      behind.started (bytes_eq w (codes "layout") && not r.begun && nat_lt (length r.layouts) MOST_LAYOUTS)
-      (length r.layouts == 0) refl refl)
+  pub line_sound : (most : ℕ) (said : List (List ℕ)) → Said said r → IsStep r.sizes (line_step most r r.sizes w)
+  line_sound most said (inl before) = subst (λ (o : Option Sizes). IsStep o (line_step most r o w))
+      (sym (ap (λ (x : ReadSoFar). x.sizes) before.is)) (heap_sound before.is)
+  line_sound most said (inr behind) = subst (λ (o : Option Sizes). IsStep o (line_step most r o w))
+      (sym behind.sizes_is) (later_sound most behind.sizes behind.range behind.started)
 
 -- ---- a line is read to its end
 

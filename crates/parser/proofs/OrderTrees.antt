@@ -27,7 +27,8 @@ use Rattle.parser.proofs.Operands.{AreFew, bounds_in}
 use Rattle.parser.proofs.ActorsAndOrders.{actor_verb, own_verb, text_plain}
 use Rattle.parser.proofs.Trees.{Tree, Done, Fail, Look, Skip, word_in, run, chain, chained, IsSound, IsGood}
 use Rattle.parser.proofs.Trees.{good_chain, bind_same}
-use Rattle.parser.proofs.WordTrees.{Any, IsLast, word_tree, or_missing, word_run, fail_run, past_run, done_good}
+use Rattle.parser.proofs.WordTrees.{word_sound}
+use Rattle.parser.proofs.WordTrees.{Any, IsLast, word_tree, word_run, fail_run, past_run, done_good}
 use Rattle.parser.proofs.WordTrees.{past_sound, good_map, number_tree, number_run, number_good, IsNumberOf, named_tree}
 use Rattle.parser.proofs.WordTrees.{named_run, named_good, address_tree, address_run, address_good}
 use Rattle.parser.proofs.WordTrees.{bind_assoc, weaker, values, values_chain, whole_tree, whole_run, whole_good}
@@ -221,7 +222,8 @@ verb_good actor = record {
           w.2,
         );
   };
-  sound = λ c o. by_word o;
+  sound = λ c. word_sound Any (IsVerbOf actor) false c kinds.UnknownWord _ (λ front. tt)
+      (λ w. by_verb w (verb_in actor w) refl);
 }
   where
     by_verb : (w : List ℕ) (o : Option Verb) → verb_in actor w ≡ o
@@ -231,11 +233,6 @@ verb_good actor = record {
         let own = actor_verb actor w verb e in
         past_sound Any (IsVerbOf actor) false w verb
         (record { words_are = ap (λ (x : List ℕ). x ∷ []) own.1; own = own.0 })
-
-    by_word : (o : Option (List ℕ)) → IsSound Any (IsVerbOf actor) false (Some o)
-        (or_missing kinds.UnknownWord (λ w. verb_or (verb_in actor w)) o)
-    by_word None = λ front. tt
-    by_word (Some w) = by_verb w (verb_in actor w) refl
 
 -- the operands of a verb, and their words
 pub record AreOperandsOf (sizes : Sizes) (verb : Verb) (o : Order) (ws : List (List ℕ)) : Type 0 where

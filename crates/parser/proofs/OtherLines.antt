@@ -65,7 +65,7 @@ joined_idle : (b : ℕ) (w : List ℕ) (ws : List (List ℕ)) → (b == 35) ≡ 
 joined_idle b w [] h = h
 joined_idle b w (v ∷ ws) h = h
 
-actor_idle : (actor : Actor) (ws : List (List ℕ)) → is_idle (line_of (actor_word actor ∷ ws)) ≡ false
+pub actor_idle : (actor : Actor) (ws : List (List ℕ)) → is_idle (line_of (actor_word actor ∷ ws)) ≡ false
 actor_idle (Thread t) ws = joined_idle 116 (decimal t) ws refl
 actor_idle (Worker w) ws = joined_idle 119 (decimal w) ws refl
 

@@ -3,23 +3,23 @@
 use Rattle.std.proofs.Common.{◌≡◌, ℕ, ◌+◌, ◌<◌, ◌≤◌, Bool, true, false, cond, nat_lt, List, [], ◌∷◌, length, drop}
 use Rattle.std.proofs.Common.{Option, Some, None, position, refl, sym, ap, subst, ◌∙◌, arith, inl, inr, ◌^◌}
 use Rattle.std.proofs.Common.{◌⊎◌}
-use Rattle.std.specs.Prelude.{Result, Ok, ◌==◌, Err, ◌||◌, not, nat_le}
+use Rattle.std.specs.Prelude.{Result, Ok, ◌==◌, Err, ◌||◌, nat_le}
 use Rattle.std.specs.List.{slice_split}
-use Rattle.std.proofs.lemmas.Bool.{ltb-false, le-ltb, lt-ltb, cases_lt, or_parts}
+use Rattle.std.proofs.lemmas.Bool.{ltb-false, le-ltb, lt-ltb, cases_lt}
 use Rattle.std.proofs.lemmas.Bool.Decides.{nat_tests, Decides-eqb}
 use Rattle.std.proofs.lemmas.List.{drop-drop, length-drop}
 use Rattle.std.proofs.lemmas.List.Quantifiers.{position-Some}
 use Rattle.std.proofs.lemmas.Option.{same_Some}
 use Rattle.parser.specs.declared.fault.Flaw.{Flaw}
-use Rattle.parser.specs.Words.{cut_at, word_at, ◌>>=◌, flaw, or_flaw, word_or, fixed_at, is_number, capped_from}
-use Rattle.parser.specs.Words.{in_range, number_at, small_at, named_at, end_at}
+use Rattle.parser.specs.Words.{cut_at, word_at, ◌>>=◌, flaw, or_flaw, word_or, fixed_at}
+use Rattle.parser.specs.Words.{number_at, small_at, named_at, end_at}
 use Rattle.parser.proofs.Lists.{split_some, split_none, split_cons}
 use Rattle.std.specs.Str.{bytes_eq}
 use Rattle.std.specs.Fmt.{decimal}
 use Rattle.std.proofs.lemmas.Slice.Eq.{bytes_eq-Decides}
 use Rattle.parser.specs.declared.fault.FaultKind.{FaultKind}
 use Rattle.parser.specs.declared.fault.FaultKind.TheVariants as kinds
-use Rattle.parser.proofs.Numbers.{number_spelled, number_read}
+use Rattle.parser.proofs.Numbers.{number_read}
 use Rattle.model.proofs.Results.{same_result, not_refused}
 
 -- the byte between words
@@ -144,11 +144,6 @@ or_flaw_ok (Some y) d x e = ap Some (same_result y x e)
 
 -- ---- words
 
-pub word_ok : (line : List ℕ) (at : ℕ) (kind : FaultKind) (w : List ℕ × ℕ) → word_or line at kind ≡ Ok w
-    → words_from line at ≡ w.0 ∷ words_from line w.1
-unfolding word_or
-word_ok line at kind w h = word_is line at w (or_flaw_ok (word_at line at) (flaw (length line) kind) w h)
-
 pub word_again : (line : List ℕ) (at : ℕ) (kind : FaultKind) (w : List ℕ) (ws : List (List ℕ))
     → words_from line at ≡ w ∷ ws → Reads line (word_or line at kind) w ws
 unfolding word_or
@@ -165,35 +160,6 @@ fixed_again line at text kind ws h =
     (w.0, rw (w.1, same) refl, w.2)
 
 -- ---- numbers
-
--- a number from low to high is the word at a place
-pub record IsNumberAt (line : List ℕ) (at low high : ℕ) (v : ℕ × ℕ) : Type 0 where
-  pub spelled : words_from line at ≡ decimal v.0 ∷ words_from line v.1
-  pub above : low ≤ v.0
-  pub below : v.0 ≤ high
-
-pub number_ok : (line : List ℕ) (at low high : ℕ) (v : ℕ × ℕ) → high < 2 ^ 64 → number_at line at low high ≡ Ok v
-    → IsNumberAt line at low high v
-unfolding number_at
-number_ok line at low high v fits h =
-    let b = bind_ok (word_or line at kinds.NumberExpected) (λ w. cond (not (is_number w.0))
-    (Err (flaw at kinds.NumberExpected)) (in_range (capped_from 0 w.0) w.1 at low high)) v h in
-    let w = b.0 in
-    let n = capped_from 0 w.0 in
-    let form = not_refused (not (is_number w.0)) (flaw at kinds.NumberExpected) (in_range n w.1 at low high) v b.2 in
-    let range = not_refused (nat_lt n low || nat_lt high n) (flaw at kinds.NumberOutOfRange) (Ok (n, w.1)) v form.1 in
-    let sides = or_parts (nat_lt n low) (nat_lt high n) range.0 in
-    let low_side : low ≤ n = grind (arith, nat_tests) in
-    let high_side : n ≤ high = grind (arith, nat_tests) in
-    let number : is_number w.0 ≡ true = grind arith in
-    let spelled : words_from line at ≡ decimal n ∷ words_from line w.1 = word_ok line at kinds.NumberExpected w b.1
-    ∙ ap (λ (x : List ℕ). x ∷ words_from line w.1) (sym (number_spelled w.0 number (omega arith))) in
-    let pair : (n, w.1) ≡ v = same_result (n, w.1) v range.1 in
-    subst (λ (x : ℕ × ℕ). IsNumberAt line at low high x) pair (record {
-      spelled = spelled;
-      above = low_side;
-      below = high_side;
-    })
 
 outside_not : (n low high : ℕ) → low ≤ n → n ≤ high → (nat_lt n low || nat_lt high n) ≡ false
 outside_not n low high a b = grind (arith, nat_tests)

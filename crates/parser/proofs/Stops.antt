@@ -20,12 +20,7 @@ use Rattle.parser.specs.Faults.{text_of, BeginsScript, IsWordEnd, byte_behind}
 use Rattle.parser.proofs.Plain.{none_ends}
 use Rattle.parser.proofs.Alike.{alike_spaced}
 use Rattle.parser.proofs.LineTrees.{line_same}
-use Rattle.parser.proofs.SpelledIsRead.{spelled_is_read}
-
--- the lines are accepted one after another, and lead from what was read to what is read then
-abbrev pub Leads : List (List ℕ) → ReadSoFar → ReadSoFar → Type 0
-Leads [] r t = r ≡ t
-Leads (line ∷ lines) r t = (u : ReadSoFar) × ((line_in r line ≡ Ok u) × Leads lines u t)
+use Rattle.parser.proofs.SpelledIsRead.{Leads, spelled_is_read}
 
 pub leads_said : (lines said : List (List ℕ)) (r t : ReadSoFar) → Said said r → Leads lines r t
     → Said (said ++ filter says_something lines) t

@@ -11,7 +11,7 @@ use Rattle.parser.specs.declared.fault.FaultKind.{FaultKind}
 use Rattle.parser.specs.declared.fault.FaultKind.TheVariants as kinds
 use Rattle.parser.specs.declared.fault.Flaw.{Flaw}
 use Rattle.parser.specs.Words.{◌>>=◌, word_at, flaw, or_flaw, word_or, fixed_at, is_number, capped_from, number_at}
-use Rattle.parser.specs.Words.{named_in, named_at, point_parts, address_number, address_in, address_at, end_at}
+use Rattle.parser.specs.Words.{in_range, named_in, named_at, point_parts, address_number, address_in, address_at, end_at}
 use Rattle.parser.specs.Words.{page_in, offset_in}
 use Rattle.parser.specs.Spelling.{address_word}
 use Rattle.parser.specs.Faults.{IsWrongWord}
@@ -19,6 +19,7 @@ use Rattle.parser.proofs.Numbers.{number_spelled, IsPlain, number_plain}
 use Rattle.parser.proofs.Places.{past_end, fixed_again, number_again, named_again}
 use Rattle.parser.proofs.Addresses.{parts_are, page_again, offset_again, address_again, address_plain}
 use Rattle.parser.proofs.WordPlaces.{finds_word, none_past}
+use Rattle.parser.proofs.Trees.{IsReadBy, run_ok}
 use Rattle.parser.proofs.Trees.{Tree, Done, Fail, Look, Skip, word_in, place_in, behind_in, run, Starts, Lives, IsSound}
 use Rattle.parser.proofs.Trees.{EndsAt, ends_chain, ends_map, IsGood, chain, good_chain, run_chain, bind_same}
 
@@ -62,57 +63,50 @@ pub past_sound : {A : Type 0} (May : List (List ℕ) → Type 0) (P : A → List
     (w : List ℕ) (x : A) → P x (w ∷ []) → IsSound May P first (Some (Some w)) (Skip (Done x))
 past_sound {A} May P first w x h = (done_lives May (λ (x : A) ws. P x (w ∷ ws)) x h, h)
 
--- a good tree, with a weaker condition on its values
+-- a choice is sound if each of its trees is, by the test
+pub sound_pick : {A : Type 0} (May : List (List ℕ) → Type 0) (P : A → List (List ℕ) → Type 0) (first : Bool)
+    (c : Option (Option (List ℕ))) (b : Bool) (t u : Tree A) → (b ≡ true → IsSound May P first c t)
+    → (b ≡ false → IsSound May P first c u) → IsSound May P first c (cond b t u)
+sound_pick May P first c true t u h k = h refl
+sound_pick May P first c false t u h k = k refl
+
+-- a good tree, with a weaker condition on its values, or after which less may follow
+module _ {A : Type 0} (More May : List (List ℕ) → Type 0) (less : (rest : List (List ℕ)) → May rest → More rest) where
+  changed_lives : (P Q : A → List (List ℕ) → Type 0) (t : Tree A) → ((x : A) (ws : List (List ℕ)) → P x ws → Q x ws)
+      → Lives More P t → Lives May Q t
+  changed_lives P Q t h l = record {
+    words = l.words;
+    plain = l.plain;
+    value = l.value;
+    is = h l.value l.words l.is;
+    reads = λ line at rest may e. l.reads line at rest (less rest may) e;
+  }
+
+  changed_sound : (t : Tree A) (P Q : A → List (List ℕ) → Type 0) → ((x : A) (ws : List (List ℕ)) → P x ws → Q x ws)
+      → (first : Bool) (c : Option (Option (List ℕ))) → IsSound More P first c t → IsSound May Q first c t
+  changed_sound (Done x) P Q h first c s = h x [] s
+  changed_sound (Fail kind) P Q h first c s = s
+  changed_sound (Look f) P Q h first c s = λ o. changed_sound (f o) P Q h first (Some o) (s o)
+  changed_sound (Skip t) P Q h first None s = s
+  changed_sound (Skip t) P Q h first (Some None) s = s
+  changed_sound (Skip t) P Q h first (Some (Some w)) s =
+      let past = λ (x : A) (ws : List (List ℕ)). h x (w ∷ ws) in (
+        changed_lives (λ (x : A) ws. P x (w ∷ ws)) (λ (x : A) ws. Q x (w ∷ ws)) t past s.0,
+        changed_sound t (λ (x : A) ws. P x (w ∷ ws)) (λ (x : A) ws. Q x (w ∷ ws)) past false None s.1,
+      )
+
+  pub changed : (P Q : A → List (List ℕ) → Type 0) (t : Tree A) → ((x : A) (ws : List (List ℕ)) → P x ws → Q x ws)
+      → IsGood More P t → IsGood May Q t
+  changed P Q t h g =
+      record { lives = changed_lives P Q t h g.lives; sound = λ c. changed_sound t P Q h false c (g.sound c) }
+
 pub weaker : {A : Type 0} (May : List (List ℕ) → Type 0) (P Q : A → List (List ℕ) → Type 0) (t : Tree A)
     → ((x : A) (ws : List (List ℕ)) → P x ws → Q x ws) → IsGood May P t → IsGood May Q t
-weaker {A} May P Q t h g = record { lives = lives_weaker P Q t h g.lives; sound = λ c. by_tree t P Q h false c (g.sound c) }
-  where
-    lives_weaker : (P Q : A → List (List ℕ) → Type 0) (t : Tree A) → ((x : A) (ws : List (List ℕ)) → P x ws → Q x ws)
-        → Lives May P t → Lives May Q t
-    lives_weaker P Q t h l = record {
-      words = l.words;
-      plain = l.plain;
-      value = l.value;
-      is = h l.value l.words l.is;
-      reads = l.reads;
-    }
+weaker May P Q t h g = changed May May (λ rest may. may) P Q t h g
 
-    by_tree : (t : Tree A) (P Q : A → List (List ℕ) → Type 0) → ((x : A) (ws : List (List ℕ)) → P x ws → Q x ws)
-        → (first : Bool) (c : Option (Option (List ℕ))) → IsSound May P first c t → IsSound May Q first c t
-    by_tree (Done x) P Q h first c s = h x [] s
-    by_tree (Fail kind) P Q h first c s = s
-    by_tree (Look f) P Q h first c s = λ o. by_tree (f o) P Q h first (Some o) (s o)
-    by_tree (Skip t) P Q h first None s = s
-    by_tree (Skip t) P Q h first (Some None) s = s
-    by_tree (Skip t) P Q h first (Some (Some w)) s =
-        let past = λ (x : A) (ws : List (List ℕ)). h x (w ∷ ws) in (
-          lives_weaker (λ (x : A) ws. P x (w ∷ ws)) (λ (x : A) ws. Q x (w ∷ ws)) t past s.0,
-          by_tree t (λ (x : A) ws. P x (w ∷ ws)) (λ (x : A) ws. Q x (w ∷ ws)) past false None s.1,
-        )
-
--- a good tree, after which less may follow
 pub narrower : {A : Type 0} (More May : List (List ℕ) → Type 0) → ((rest : List (List ℕ)) → May rest → More rest)
     → (P : A → List (List ℕ) → Type 0) (t : Tree A) → IsGood More P t → IsGood May P t
-narrower {A} More May less P t g = record { lives = lives_narrower P t g.lives; sound = λ c. by_tree t P false c (g.sound c) }
-  where
-    lives_narrower : (P : A → List (List ℕ) → Type 0) (t : Tree A) → Lives More P t → Lives May P t
-    lives_narrower P t l = record {
-      words = l.words;
-      plain = l.plain;
-      value = l.value;
-      is = l.is;
-      reads = λ line at rest may e. l.reads line at rest (less rest may) e;
-    }
-
-    by_tree : (t : Tree A) (P : A → List (List ℕ) → Type 0) (first : Bool) (c : Option (Option (List ℕ)))
-        → IsSound More P first c t → IsSound May P first c t
-    by_tree (Done x) P first c s = s
-    by_tree (Fail kind) P first c s = s
-    by_tree (Look f) P first c s = λ o. by_tree (f o) P first (Some o) (s o)
-    by_tree (Skip t) P first None s = s
-    by_tree (Skip t) P first (Some None) s = s
-    by_tree (Skip t) P first (Some (Some w)) s =
-        (lives_narrower (λ (x : A) ws. P x (w ∷ ws)) t s.0, by_tree t (λ (x : A) ws. P x (w ∷ ws)) false None s.1)
+narrower More May less P t g = changed More May less P P t (λ x ws p. p) g
 
 -- a good tree, whose values go into others
 pub good_map : {A B : Type 0} (May : List (List ℕ) → Type 0) (P : A → List (List ℕ) → Type 0)
@@ -125,7 +119,22 @@ good_map {A} {B} May P Q make t h g = good_chain May May (λ (x : A). Done (make
   follows = λ x ws p rest may. may;
 })
 
+pub word_sound : {A : Type 0} (May : List (List ℕ) → Type 0) (P : A → List (List ℕ) → Type 0) (first : Bool)
+    (c : Option (Option (List ℕ))) (kind : FaultKind) (f : List ℕ → Tree A)
+    → ((front : List ℕ) → IsWrongWord kind front []) → ((w : List ℕ) → IsSound May P first (Some (Some w)) (f w))
+    → IsSound May P first c (word_tree kind f)
+word_sound {A} May P first c kind f missing h = λ o. by_word o
+  where
+    by_word : (o : Option (List ℕ)) → IsSound May P first (Some o) (or_missing kind f o)
+    by_word None = missing
+    by_word (Some w) = h w
+
 module _ {A : Type 0} (line : List ℕ) (at : ℕ) where
+  pub run_pick : (b : Bool) (t u : Tree A) (r s : Result (A × ℕ) Flaw) → run t line at ≡ r → run u line at ≡ s
+      → run (cond b t u) line at ≡ cond b r s
+  run_pick true t u r s h k = h
+  run_pick false t u r s h k = k
+
   pub word_run : (kind : FaultKind) (f : List ℕ → Tree A) (judge : List ℕ × ℕ → Result (A × ℕ) Flaw)
       → ((w : List ℕ × ℕ) → word_at line at ≡ Some w → run (f w.0) line at ≡ judge w)
       → run (word_tree kind f) line at ≡ (word_or line at kind >>= judge)
@@ -141,6 +150,13 @@ module _ {A : Type 0} (line : List ℕ) (at : ℕ) where
       → run {A = A} (Fail kind) line at ≡ Err (flaw at kind)
   fail_run kind w e = ap (λ (o : Option (List ℕ × ℕ)). Err (flaw (place_in line at o) kind)) e
 
+  -- a test that refuses the word
+  pub refuse_run : {B : Type 0} (kind : FaultKind) (w : List ℕ × ℕ) → word_at line at ≡ Some w → (b : Bool)
+      (t : Tree A) (r : Result B Flaw) (g : B → Result (A × ℕ) Flaw) → run t line at ≡ (r >>= g)
+      → run (cond b (Fail kind) t) line at ≡ (cond b (Err (flaw at kind)) r >>= g)
+  refuse_run kind w e true t r g h = fail_run kind w e
+  refuse_run kind w e false t r g h = h
+
   pub past_run : (x : A) (w : List ℕ × ℕ) → word_at line at ≡ Some w → run (Skip (Done x)) line at ≡ Ok (x, w.1)
   past_run x w e = ap (λ (o : Option (List ℕ × ℕ)). Ok (x, behind_in at o)) e
 
@@ -154,7 +170,8 @@ pub fixed_run : (line : List ℕ) (at : ℕ) (text : List ℕ)
     → run (fixed_tree text) line at ≡ (fixed_at line at text kinds.UnknownWord >>= (λ after. Ok (tt, after)))
 unfolding fixed_at
 fixed_run line at text =
-    word_run line at kinds.UnknownWord _ _ (λ w e. by_test w e (bytes_eq w.0 text))
+    word_run line at kinds.UnknownWord _ (λ w. cond (bytes_eq w.0 text) (Ok w.1) (Err (flaw at kinds.UnknownWord))
+    >>= (λ after. Ok (tt, after))) (λ w e. by_test w e (bytes_eq w.0 text))
     ∙ sym (bind_assoc (word_or line at kinds.UnknownWord) _ _)
   where
     by_test : (w : List ℕ × ℕ) → word_at line at ≡ Some w → (b : Bool)
@@ -176,18 +193,11 @@ fixed_good text plain = record {
     reads = λ line at rest may e. let a = fixed_again line at text kinds.UnknownWord rest e in
         (a.0, fixed_run line at text ∙ ap (λ (r : Result ℕ Flaw). r >>= (λ after. Ok (tt, after))) a.1, a.2);
   };
-  sound = λ c o. by_word o;
+  sound = λ c. word_sound Any (IsText text) false c kinds.UnknownWord _ (λ front. tt) (λ w.
+      sound_pick Any (IsText text) false (Some (Some w)) (bytes_eq w text) (Skip (Done tt)) (Fail kinds.UnknownWord)
+      (λ e. past_sound Any (IsText text) false w tt (ap (λ (x : List ℕ). x ∷ []) ((bytes_eq-Decides w text).0 e)))
+      (λ e front start. tt));
 }
-  where
-    by_test : (w : List ℕ) (b : Bool) → bytes_eq w text ≡ b
-        → IsSound Any (IsText text) false (Some (Some w)) (cond b (Skip (Done tt)) (Fail kinds.UnknownWord))
-    by_test w true e = past_sound Any (IsText text) false w tt (ap (λ (x : List ℕ). x ∷ []) ((bytes_eq-Decides w text).0 e))
-    by_test w false e = λ front start. tt
-
-    by_word : (o : Option (List ℕ)) → IsSound Any (IsText text) false (Some o) (or_missing kinds.UnknownWord
-        (λ w. cond (bytes_eq w text) (Skip (Done tt)) (Fail kinds.UnknownWord)) o)
-    by_word None = λ front. tt
-    by_word (Some w) = by_test w (bytes_eq w text) refl
 
 -- ---- numbers
 
@@ -206,17 +216,12 @@ pub number_or_run : {A : Type 0} (line : List ℕ) (at low high : ℕ) (k : ℕ 
     → run (number_or low high k) line at ≡ (number_at line at low high >>= g)
 unfolding number_at
 number_or_run {A} line at low high k g h =
-    word_run line at kinds.NumberExpected _ _ (λ w e. by_test w e (not (is_number w.0))
-    (nat_lt (capped_from 0 w.0) low || nat_lt high (capped_from 0 w.0)))
+    word_run line at kinds.NumberExpected _ (λ w. cond (not (is_number w.0)) (Err (flaw at kinds.NumberExpected))
+    (in_range (capped_from 0 w.0) w.1 at low high) >>= g) (λ w e.
+    let n = capped_from 0 w.0 in
+    refuse_run line at kinds.NumberExpected w e (not (is_number w.0)) _ _ g
+    (refuse_run line at kinds.NumberOutOfRange w e (nat_lt n low || nat_lt high n) (k n) (Ok (n, w.1)) g (h n w e)))
     ∙ sym (bind_assoc (word_or line at kinds.NumberExpected) _ g)
-  where
-    by_test : (w : List ℕ × ℕ) → word_at line at ≡ Some w → (b c : Bool)
-        → run (cond b (Fail kinds.NumberExpected) (cond c (Fail kinds.NumberOutOfRange) (k (capped_from 0 w.0)))) line at
-        ≡ (cond b (Err (flaw at kinds.NumberExpected)) (cond c (Err (flaw at kinds.NumberOutOfRange))
-        (Ok (capped_from 0 w.0, w.1))) >>= g)
-    by_test w e true c = fail_run {A = A} line at kinds.NumberExpected w e
-    by_test w e false true = fail_run {A = A} line at kinds.NumberOutOfRange w e
-    by_test w e false false = h (capped_from 0 w.0) w e
 
 pub number_run : (line : List ℕ) (at low high : ℕ) → run (number_tree low high) line at ≡ number_at line at low high
 number_run line at low high =
@@ -234,31 +239,29 @@ unfolding is_number
 no_number = refl
 
 pub number_or_sound : {A : Type 0} (May : List (List ℕ) → Type 0) (P : A → List (List ℕ) → Type 0) (first : Bool)
-    (low high : ℕ) (k : ℕ → Tree A) → high < 2 ^ 64
-    → ((n : ℕ) (w : List ℕ) → is_number w ≡ true → IsNumberOf low high n (w ∷ [])
-    → IsSound May P first (Some (Some w)) (k n))
-    → (o : Option (List ℕ)) → IsSound May P first (Some o) (or_missing kinds.NumberExpected (λ w.
-    cond (not (is_number w)) (Fail kinds.NumberExpected)
-    (cond (nat_lt (capped_from 0 w) low || nat_lt high (capped_from 0 w)) (Fail kinds.NumberOutOfRange)
-    (k (capped_from 0 w)))) o)
-number_or_sound May P first low high k fits h None = λ front. no_number
-number_or_sound May P first low high k fits h (Some w) = by_test (is_number w)
-    (nat_lt (capped_from 0 w) low || nat_lt high (capped_from 0 w)) refl refl
-  where
-    by_test : (b c : Bool) → is_number w ≡ b → (nat_lt (capped_from 0 w) low || nat_lt high (capped_from 0 w)) ≡ c
-        → IsSound May P first (Some (Some w)) (cond (not b) (Fail kinds.NumberExpected)
-        (cond c (Fail kinds.NumberOutOfRange) (k (capped_from 0 w))))
-    by_test false c e d = λ front start. e
-    by_test true true e d = λ front start. inl e
-    by_test true false e d =
-        let sides = or_parts (nat_lt (capped_from 0 w) low) (nat_lt high (capped_from 0 w)) d in
-        let above : low ≤ capped_from 0 w = grind (arith, nat_tests) in
-        let below : capped_from 0 w ≤ high = grind (arith, nat_tests) in
-        h (capped_from 0 w) w e (record {
-          words_are = ap (λ (x : List ℕ). x ∷ []) (sym (number_spelled w e (omega arith)));
-          above = above;
-          below = below;
-        })
+    (c : Option (Option (List ℕ))) (low high : ℕ) (k : ℕ → Tree A) → high < 2 ^ 64 → ((n : ℕ) (w : List ℕ)
+    → is_number w ≡ true → IsNumberOf low high n (w ∷ []) → IsSound May P first (Some (Some w)) (k n))
+    → IsSound May P first c (number_or low high k)
+number_or_sound May P first c low high k fits h = word_sound May P first c kinds.NumberExpected _ (λ front. no_number)
+    (λ w. let n = capped_from 0 w in
+    sound_pick May P first (Some (Some w)) (not (is_number w)) (Fail kinds.NumberExpected) _
+    (λ e front start. grind arith) (λ e. sound_pick May P first (Some (Some w)) (nat_lt n low || nat_lt high n)
+    (Fail kinds.NumberOutOfRange) (k n) (λ d front start. inl (not-false (is_number w) e)) (λ d.
+    let number = not-false (is_number w) e in
+    let sides = or_parts (nat_lt n low) (nat_lt high n) d in
+    let above : low ≤ n = grind (arith, nat_tests) in
+    let below : n ≤ high = grind (arith, nat_tests) in
+    h n w number (record {
+      words_are = ap (λ (x : List ℕ). x ∷ []) (sym (number_spelled w number (omega arith)));
+      above = above;
+      below = below;
+    }))))
+
+pub number_ok : (line : List ℕ) (at low high : ℕ) (v : ℕ × ℕ) → high < 2 ^ 64 → number_at line at low high ≡ Ok v
+    → IsReadBy (IsNumberOf low high) line at v.1 v.0
+number_ok line at low high v fits h = run_ok Any (IsNumberOf low high) line v (number_tree low high) false None at
+    (number_or_sound Any (IsNumberOf low high) false None low high (λ n. Skip (Done n)) fits (λ n w number is.
+    past_sound Any (IsNumberOf low high) false w n is)) tt (number_run line at low high ∙ h)
 
 pub number_lives : (low high n : ℕ) → low ≤ n → n ≤ high → high < 2 ^ 64 → Lives Any (IsNumberOf low high)
     (number_tree low high)
@@ -274,7 +277,7 @@ number_lives low high n above below fits = record {
 pub number_good : (low high : ℕ) → low ≤ high → high < 2 ^ 64 → IsGood Any (IsNumberOf low high) (number_tree low high)
 number_good low high some fits = record {
   lives = number_lives low high low (omega arith) some fits;
-  sound = λ c. number_or_sound Any (IsNumberOf low high) false low high (λ n. Skip (Done n)) fits
+  sound = λ c. number_or_sound Any (IsNumberOf low high) false c low high (λ n. Skip (Done n)) fits
       (λ n w number is. past_sound Any (IsNumberOf low high) false w n is);
 }
 
@@ -301,18 +304,13 @@ named_or_run {A} line at letter count missing k g h =
     word_run line at kinds.UnknownWord _ _ (λ w e. by_word w.0 w.1 e)
     ∙ sym (bind_assoc (word_or line at kinds.UnknownWord) _ g)
   where
-    by_test : (n : ℕ) (w : List ℕ × ℕ) → word_at line at ≡ Some w → (b c : Bool)
-        → run (cond b (Fail kinds.UnknownWord) (cond c (Fail missing) (k n))) line at
-        ≡ (cond b (Err (flaw at kinds.UnknownWord)) (cond c (Err (flaw at missing)) (Ok (n, w.1))) >>= g)
-    by_test n w e true c = fail_run {A = A} line at kinds.UnknownWord w e
-    by_test n w e false true = fail_run {A = A} line at missing w e
-    by_test n w e false false = h n w e
-
     by_word : (word : List ℕ) (after : ℕ) → word_at line at ≡ Some (word, after)
         → run (name_in letter count missing k word) line at ≡ (named_in word after at letter count missing >>= g)
     by_word [] after e = fail_run {A = A} line at kinds.UnknownWord ([], after) e
-    by_word (b ∷ bs) after e = by_test (capped_from 0 bs) (b ∷ bs, after) e (not (b == letter) || not (is_number bs))
-        (nat_le count (capped_from 0 bs))
+    by_word (b ∷ bs) after e =
+        let n = capped_from 0 bs in
+        refuse_run line at kinds.UnknownWord (b ∷ bs, after) e (not (b == letter) || not (is_number bs)) _ _ g
+        (refuse_run line at missing (b ∷ bs, after) e (nat_le count n) (k n) (Ok (n, after)) g (h n (b ∷ bs, after) e))
 
 pub named_run : (line : List ℕ) (at letter count : ℕ) (missing : FaultKind)
     → run (named_tree letter count missing) line at ≡ named_at line at letter count missing
@@ -336,37 +334,22 @@ pub name_sound : {A : Type 0} (May : List (List ℕ) → Type 0) (P : A → List
     → IsSound May P first (Some (Some w)) (name_in letter count missing k w)
 name_sound May P first letter count missing k fits absent [] h = λ front start. tt
 name_sound May P first letter count missing k fits absent (b ∷ bs) h =
-    by_test (not (b == letter) || not (is_number bs)) (nat_le count (capped_from 0 bs)) refl refl
-  where
-    by_test : (c d : Bool) → (not (b == letter) || not (is_number bs)) ≡ c → nat_le count (capped_from 0 bs) ≡ d
-        → IsSound May P first (Some (Some (b ∷ bs))) (cond c (Fail kinds.UnknownWord)
-        (cond d (Fail missing) (k (capped_from 0 bs))))
-    by_test true d e l = λ front start. tt
-    by_test false d e l =
-        let sides = or_parts (not (b == letter)) (not (is_number bs)) e in
-        let letter_is : b ≡ letter = (Decides-eqb b letter).0 (not-false (b == letter) sides.0) in
-        let number : is_number bs ≡ true = not-false (is_number bs) sides.1 in
-        by_range d l letter_is number
-      where
-        by_range : (d : Bool) → nat_le count (capped_from 0 bs) ≡ d → b ≡ letter → is_number bs ≡ true
-            → IsSound May P first (Some (Some (b ∷ bs))) (cond d (Fail missing) (k (capped_from 0 bs)))
-        by_range true l same number = λ front start.
-            subst (λ (x : ℕ). IsWrongWord missing front (x ∷ bs)) (sym same) (absent front bs start number)
-        by_range false l same number =
-            let below = leb-false count (capped_from 0 bs) l in
-            h (capped_from 0 bs) (record {
-              words_are = ap (λ (x : ℕ). (x ∷ bs) ∷ []) same
-                  ∙ ap (λ (x : List ℕ). (letter ∷ x) ∷ []) (sym (number_spelled bs number (omega arith)));
-              below = below;
-            })
-
-pub named_or_sound : {A : Type 0} (May : List (List ℕ) → Type 0) (P : A → List (List ℕ) → Type 0) (first : Bool)
-    (letter count : ℕ) (missing : FaultKind) (k : ℕ → Tree A) → count < 2 ^ 64 → IsAbsent first letter missing
-    → ((n : ℕ) (w : List ℕ) → IsNameIn letter count n (w ∷ []) → IsSound May P first (Some (Some w)) (k n))
-    → (o : Option (List ℕ)) → IsSound May P first (Some o) (or_missing kinds.UnknownWord (name_in letter count missing k) o)
-named_or_sound May P first letter count missing k fits absent h None = λ front. tt
-named_or_sound May P first letter count missing k fits absent h (Some w) =
-    name_sound May P first letter count missing k fits absent w (λ n. h n w)
+    let n = capped_from 0 bs in
+    let own = λ (e : (not (b == letter) || not (is_number bs)) ≡ false). or_parts (not (b == letter)) (not
+    (is_number bs)) e in
+    let same = λ (e : (not (b == letter) || not (is_number bs)) ≡ false).
+    (Decides-eqb b letter).0 (not-false (b == letter) (own e).0) in
+    let number = λ (e : (not (b == letter) || not (is_number bs)) ≡ false). not-false (is_number bs) (own e).1 in
+    sound_pick May P first (Some (Some (b ∷ bs))) (not (b == letter) || not (is_number bs)) (Fail kinds.UnknownWord) _
+    (λ e front start. tt) (λ e. sound_pick May P first (Some (Some (b ∷ bs))) (nat_le count n) (Fail missing) (k n)
+    (λ l front start. subst (λ (x : ℕ). IsWrongWord missing front (x ∷ bs)) (sym (same e))
+    (absent front bs start (number e))) (λ l.
+    let below = leb-false count n l in
+    h n (record {
+      words_are = ap (λ (x : ℕ). (x ∷ bs) ∷ []) (same e)
+          ∙ ap (λ (x : List ℕ). (letter ∷ x) ∷ []) (sym (number_spelled bs (number e) (omega arith)));
+      below = below;
+    })))
 
 pub named_good : (letter count : ℕ) (missing : FaultKind) → 1 ≤ count → count < 2 ^ 64 → 32 < letter
     → IsAbsent false letter missing → IsGood Any (IsNameIn letter count) (named_tree letter count missing)
@@ -379,8 +362,9 @@ named_good letter count missing some fits plain absent = record {
     reads = λ line at rest may e. let a = named_again line at letter count missing 0 rest (omega arith) some e in
         (a.0, named_run line at letter count missing ∙ a.1, a.2);
   };
-  sound = λ c. named_or_sound Any (IsNameIn letter count) false letter count missing (λ n. Skip (Done n)) fits absent
-      (λ n w is. past_sound Any (IsNameIn letter count) false w n is);
+  sound = λ c. word_sound Any (IsNameIn letter count) false c kinds.UnknownWord _ (λ front. tt) (λ w.
+      name_sound Any (IsNameIn letter count) false letter count missing (λ n. Skip (Done n)) fits absent w
+      (λ n is. past_sound Any (IsNameIn letter count) false w n is));
 }
 
 -- ---- addresses
@@ -399,21 +383,16 @@ unfolding address_at
 address_run line at words =
     word_run line at kinds.UnknownWord _ _ (λ w e. by_parts w e (point_parts w.0))
   where
-    by_test : (n : ℕ) (w : List ℕ × ℕ) → word_at line at ≡ Some w → (b c : Bool)
-        → run (cond b (Fail kinds.UnknownWord) (cond c (Fail kinds.NumberOutOfRange) (Skip (Done n)))) line at
-        ≡ cond b (Err (flaw at kinds.UnknownWord)) (cond c (Err (flaw at kinds.NumberOutOfRange)) (Ok (n, w.1)))
-    by_test n w e true c = fail_run {A = ℕ} line at kinds.UnknownWord w e
-    by_test n w e false true = fail_run {A = ℕ} line at kinds.NumberOutOfRange w e
-    by_test n w e false false = past_run line at n w e
-
     by_parts : (w : List ℕ × ℕ) → word_at line at ≡ Some w → (o : Option (List ℕ × List ℕ))
         → run (parts_in words o) line at
         ≡ (or_flaw o (flaw at kinds.UnknownWord) >>= (λ parts. address_in parts w.1 at words))
     by_parts w e None = fail_run {A = ℕ} line at kinds.UnknownWord w e
     by_parts w e (Some parts) =
-        by_test (address_number (capped_from 0 parts.0) (capped_from 0 parts.1)) w e
-        (not (is_number parts.0) || not (is_number parts.1))
-        (nat_le (2 ^ 32) (capped_from 0 parts.0) || nat_le words (capped_from 0 parts.1))
+        run_pick line at (not (is_number parts.0) || not (is_number parts.1)) (Fail kinds.UnknownWord) _ _ _
+        (fail_run {A = ℕ} line at kinds.UnknownWord w e)
+        (run_pick line at (nat_le (2 ^ 32) (capped_from 0 parts.0) || nat_le words (capped_from 0 parts.1))
+        (Fail kinds.NumberOutOfRange) _ _ _ (fail_run {A = ℕ} line at kinds.NumberOutOfRange w e)
+        (past_run line at (address_number (capped_from 0 parts.0) (capped_from 0 parts.1)) w e))
 
 -- an address with an offset below a number of words, and its word
 pub record IsAddressIn (words n : ℕ) (ws : List (List ℕ)) : Type 0 where
@@ -425,41 +404,31 @@ parts_sound : (words : ℕ) (w : List ℕ) → words ≤ 2 ^ 32 → (o : Option 
     → IsSound Any (IsAddressIn words) false (Some (Some w)) (parts_in words o)
 parts_sound words w few None e = λ front start. tt
 parts_sound words w few (Some parts) e =
-    by_test (not (is_number parts.0) || not (is_number parts.1))
-    (nat_le (2 ^ 32) (capped_from 0 parts.0) || nat_le words (capped_from 0 parts.1)) refl refl
-  where
-    by_range : (d : Bool) → (nat_le (2 ^ 32) (capped_from 0 parts.0) || nat_le words (capped_from 0 parts.1)) ≡ d
-        → is_number parts.0 ≡ true → is_number parts.1 ≡ true
-        → IsSound Any (IsAddressIn words) false (Some (Some w)) (cond d (Fail kinds.NumberOutOfRange)
-        (Skip (Done (address_number (capped_from 0 parts.0) (capped_from 0 parts.1)))))
-    by_range true l page offset = λ front start. inr (parts.0, (parts.1, (parts_are w parts e, (page, offset))))
-    by_range false l page offset =
-        let n = address_number (capped_from 0 parts.0) (capped_from 0 parts.1) in
-        let bounds = or_parts (nat_le (2 ^ 32) (capped_from 0 parts.0)) (nat_le words (capped_from 0 parts.1)) l in
-        let page_below : capped_from 0 parts.0 < 2 ^ 32 = leb-false (2 ^ 32) (capped_from 0 parts.0) bounds.0 in
-        let offset_below : capped_from 0 parts.1 < words = leb-false words (capped_from 0 parts.1) bounds.1 in
-        let page_is = page_again (capped_from 0 parts.0) (capped_from 0 parts.1) (omega arith) in
-        let offset_is = offset_again (capped_from 0 parts.0) (capped_from 0 parts.1) (omega arith) in
-        past_sound Any (IsAddressIn words) false w n (record {
-          words_are = rw (
-            page_is,
-            offset_is,
-            number_spelled parts.0 page (omega arith),
-            number_spelled parts.1 offset (omega arith),
-          ) (ap (λ (x : List ℕ). x ∷ []) (parts_are w parts e));
-          fits = omega arith;
-          within = rw offset_is offset_below;
-        })
-
-    by_test : (c d : Bool) → (not (is_number parts.0) || not (is_number parts.1)) ≡ c
-        → (nat_le (2 ^ 32) (capped_from 0 parts.0) || nat_le words (capped_from 0 parts.1)) ≡ d
-        → IsSound Any (IsAddressIn words) false (Some (Some w)) (cond c (Fail kinds.UnknownWord)
-        (cond d (Fail kinds.NumberOutOfRange)
-        (Skip (Done (address_number (capped_from 0 parts.0) (capped_from 0 parts.1))))))
-    by_test true d e l = λ front start. tt
-    by_test false d e l =
-        let sides = or_parts (not (is_number parts.0)) (not (is_number parts.1)) e in
-        by_range d l (not-false (is_number parts.0) sides.0) (not-false (is_number parts.1) sides.1)
+    let a = capped_from 0 parts.0 in
+    let b = capped_from 0 parts.1 in
+    let p = not (is_number parts.0) in
+    let q = not (is_number parts.1) in
+    let pick = sound_pick Any (IsAddressIn words) false (Some (Some w)) in
+    pick (p || q) (Fail kinds.UnknownWord) _ (λ d front start. tt) (λ d.
+    let sides = or_parts p q d in
+    let page = not-false (is_number parts.0) sides.0 in
+    let offset = not-false (is_number parts.1) sides.1 in
+    pick (nat_le (2 ^ 32) a || nat_le words b) (Fail kinds.NumberOutOfRange) (Skip (Done (address_number a b)))
+    (λ l front start. inr (parts.0, (parts.1, (parts_are w parts e, (page, offset))))) (λ l.
+    let bounds = or_parts (nat_le (2 ^ 32) a) (nat_le words b) l in
+    let page_below : a < 2 ^ 32 = leb-false (2 ^ 32) a bounds.0 in
+    let offset_below : b < words = leb-false words b bounds.1 in
+    let offset_is = offset_again a b (omega arith) in
+    past_sound Any (IsAddressIn words) false w (address_number a b) (record {
+      words_are = rw (
+        page_again a b (omega arith),
+        offset_is,
+        number_spelled parts.0 page (omega arith),
+        number_spelled parts.1 offset (omega arith),
+      ) (ap (λ (x : List ℕ). x ∷ []) (parts_are w parts e));
+      fits = omega arith;
+      within = rw offset_is offset_below;
+    })))
 
 pub address_good : (words : ℕ) → 1 ≤ words → words ≤ 2 ^ 32 → IsGood Any (IsAddressIn words) (address_tree words)
 address_good words some few = record {
@@ -471,13 +440,9 @@ address_good words some few = record {
     reads = λ line at rest may e. let a = address_again line at words 0 rest (omega arith) some e in
         (a.0, address_run line at words ∙ a.1, a.2);
   };
-  sound = λ c o. by_word o;
+  sound = λ c. word_sound Any (IsAddressIn words) false c kinds.UnknownWord _ (λ front. tt)
+      (λ w. parts_sound words w few (point_parts w) refl);
 }
-  where
-    by_word : (o : Option (List ℕ)) → IsSound Any (IsAddressIn words) false (Some o)
-        (or_missing kinds.UnknownWord (λ w. parts_in words (point_parts w)) o)
-    by_word None = λ front. tt
-    by_word (Some w) = parts_sound words w few (point_parts w) refl
 
 -- ---- the end
 
