@@ -1,24 +1,13 @@
 -- Actors and complete orders: what is read is spelled so, and what is spelled so is read.
-use Rattle.std.proofs.Common.{◌≡◌, ℕ, Bool, true, false, cond, List, [], ◌∷◌}
-use Rattle.std.proofs.Common.{Some, refl, sym, ap, subst, ◌∙◌, arith}
-use Rattle.std.specs.Prelude.{Ok, ◌==◌, find, Option, None}
-use Rattle.std.specs.Str.{bytes_eq}
-use Rattle.std.specs.Fmt.{decimal}
-use Rattle.std.specs.List.{join_with_byte}
-use Rattle.std.proofs.lemmas.List.Splits.{join_with_byte-slice_split}
-use Rattle.std.proofs.lemmas.Slice.Eq.{bytes_eq-Decides}
-use Rattle.std.proofs.lemmas.Option.{same_Some}
-use Rattle.model.specs.declared.steps.Actor.{Actor}
-use Rattle.model.specs.declared.steps.Actor.TheVariants.{Thread, Worker}
+use Rattle.parser.proofs.Names.{Bool, List, None, Option, Some, [], ap, arith, cond, false, refl, subst, sym, true, ℕ}
+use Rattle.parser.proofs.Names.{◌∙◌, ◌∷◌, ◌≡◌, join_with_byte-slice_split, same_Some, bytes_eq-Decides, decimal}
+use Rattle.parser.proofs.Names.{join_with_byte, Ok, ◌==◌, bytes_eq, Actor, Thread, Worker, config_of, does}
+use Rattle.parser.proofs.Names.{first_byte, verb_in, actor_at, order_at, IsActor, IsFor, IsOrder, actor_word}
+use Rattle.parser.proofs.Names.{operand_words, order_words, row_of, verb_of, Sizes, Order, Verb}
+use Rattle.std.specs.Prelude.{find}
 use Rattle.parser.specs.declared.fault.FaultKind.TheVariants as kinds
-use Rattle.parser.specs.declared.heading.Sizes.{Sizes}
-use Rattle.parser.specs.declared.order.Order.{Order}
-use Rattle.parser.specs.declared.verbs.Verb.{Verb}
 use Rattle.parser.specs.declared.verbs.TheConstants.{VERBS}
-use Rattle.parser.specs.Verbs.{row_of, verb_of}
-use Rattle.parser.specs.Orders.{does, done_by, verb_in, first_byte, actor_at, order_at}
-use Rattle.parser.specs.Headings.{config_of}
-use Rattle.parser.specs.Spelling.{actor_word, operand_words, order_words, IsActor, IsFor, IsOrder}
+use Rattle.parser.specs.Orders.{done_by}
 use Rattle.parser.proofs.Numbers.{IsPlain}
 use Rattle.parser.proofs.Places.{words_from, words_whole, Reads}
 use Rattle.parser.proofs.Places.{word_again}
@@ -59,8 +48,7 @@ pub actor_verb : (actor : Actor) (w : List ℕ) (v : Verb) → verb_in actor w �
     → (does actor v ≡ true) × (w ≡ (row_of v).text)
 actor_verb actor w v h = by_verb (verb_of w) refl h
   where
-    by_test : (x : Verb) (b : Bool) → does actor x ≡ b → cond b (Some x) None ≡ Some v
-        → (does actor v ≡ true) × (x ≡ v)
+    by_test : (x : Verb) (b : Bool) → does actor x ≡ b → cond b (Some x) None ≡ Some v → (does actor v ≡ true) × (x ≡ v)
     by_test x true own e =
         let same : x ≡ v = same_Some x v e in (subst (λ (y : Verb). does actor y ≡ true) same own, same)
     by_test x false own e = absurd cc
@@ -81,9 +69,8 @@ text_plain verb = grind arith
 pub own_verb : (actor : Actor) (verb : Verb) → does actor verb ≡ true → verb_in actor (row_of verb).text ≡ Some verb
 own_verb actor verb own = ap (done_by actor) (verb_again verb) ∙ (rw own refl)
 
-pub order_again : (sizes : Sizes) (line : List ℕ) (actor : Actor) (at : ℕ) (o : Order) → AreFew sizes
-    → IsFor actor o → IsOrder (bounds_in sizes) o → words_from line at ≡ order_words o
-    → order_at sizes line actor at ≡ Ok o
+pub order_again : (sizes : Sizes) (line : List ℕ) (actor : Actor) (at : ℕ) (o : Order) → AreFew sizes → IsFor actor o
+    → IsOrder (bounds_in sizes) o → words_from line at ≡ order_words o → order_at sizes line actor at ≡ Ok o
 unfolding order_at
 order_again sizes line actor at o few own is h =
     let operands = operand_words (row_of o.verb).kinds o in

@@ -1,21 +1,14 @@
 -- An address in a word: what is read is spelled so, and what is spelled so is read.
-use Rattle.std.proofs.Common.{◌≡◌, ℕ, ◌+◌, ◌^◌, ◌<◌, Bool, true, false, cond, nat_lt, List, [], ◌∷◌}
-use Rattle.std.proofs.Common.{◌++◌, length, take, drop, Option, Some, None, position, refl, sym, ap, subst, ◌∙◌, arith}
-use Rattle.std.proofs.Common.{length-append}
-use Rattle.std.specs.Prelude.{Ok, ◌==◌, not, nat_le}
-use Rattle.std.specs.Fmt.{decimal}
-use Rattle.std.specs.List.{AllByRecursion, list_all, slice_split, join_with_byte, position_or_len}
-use Rattle.std.proofs.lemmas.Bool.{and_parts, lt-ltb}
-use Rattle.std.proofs.lemmas.Bool.Decides.{nat_tests}
-use Rattle.std.proofs.lemmas.List.Splits.{join_with_byte-slice_split}
-use Rattle.std.proofs.lemmas.Option.{same_Some}
-use Rattle.std.proofs.Math.Seq.{take-append_seam, drop-append-add}
+use Rattle.parser.proofs.Names.{Bool, List, None, Option, Some, [], ap, arith, cond, drop, false, length}
+use Rattle.parser.proofs.Names.{length-append, nat_lt, position, refl, subst, sym, take, true, ℕ, ◌++◌, ◌+◌, ◌<◌, ◌^◌}
+use Rattle.parser.proofs.Names.{◌∙◌, ◌∷◌, ◌≡◌, take-append_seam, and_parts, lt-ltb, nat_tests, list_all-append}
+use Rattle.parser.proofs.Names.{join_with_byte-slice_split, same_Some, decimal, AllByRecursion, join_with_byte}
+use Rattle.parser.proofs.Names.{list_all, position_or_len, slice_split, Ok, nat_le, not, ◌==◌, address_word}
+use Rattle.parser.proofs.Names.{address_in, address_number, is_digit, offset_in, page_in, address_at, point_parts}
+use Rattle.std.proofs.Math.Seq.{drop-append-add}
 use Rattle.parser.specs.declared.fault.FaultKind.TheVariants as kinds
-use Rattle.parser.specs.Words.{is_digit, parts_at, point_parts}
-use Rattle.parser.specs.Words.{address_number, page_in, offset_in, address_in, address_at}
-use Rattle.parser.specs.Spelling.{address_word}
+use Rattle.parser.specs.Words.{parts_at}
 use Rattle.parser.proofs.Lists.{split_cons, split_some}
-use Rattle.std.proofs.lemmas.List.Folds.{list_all-append}
 use Rattle.parser.proofs.Numbers.{IsPlain, number_plain, number_read, decimal_digits}
 use Rattle.parser.proofs.Places.{words_from, Reads, word_again}
 
@@ -26,8 +19,7 @@ abbrev point : ℕ → Bool
 point b = b == 46
 
 -- a word with a period at this place is its parts with the period between them
-parts_joined : (word : List ℕ) (i : ℕ) → position point word ≡ Some i
-    → word ≡ take i word ++ (46 ∷ drop (i + 1) word)
+parts_joined : (word : List ℕ) (i : ℕ) → position point word ≡ Some i → word ≡ take i word ++ (46 ∷ drop (i + 1) word)
 parts_joined word i h =
     let rest = split_cons point (drop (i + 1) word) in
     let cut : slice_split point word ≡ take i word ∷ (rest.first ∷ rest.others) =

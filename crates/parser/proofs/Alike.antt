@@ -1,16 +1,9 @@
 -- Two lines that agree up to a place, and what is read from them up to there.
-use Rattle.std.proofs.Common.{◌≡◌, ◌≢◌, ℕ, ◌+◌, ◌<◌, ◌≤◌, List, [], ◌∷◌}
-use Rattle.std.proofs.Common.{◌++◌, length, take, drop, Some, refl, sym, ap, ◌∙◌, arith}
-use Rattle.std.proofs.Common.{inl, inr, append-nil, append_assoc, length-append}
-use Rattle.std.specs.List.{AllByRecursion, All}
-use Rattle.std.proofs.lemmas.Bool.Decides.{nat_tests}
-use Rattle.std.proofs.lemmas.List.{take-append-drop, length-take}
-use Rattle.std.proofs.Math.Seq.{take-append_seam}
-use Rattle.parser.specs.declared.fault.FaultKind.{FaultKind}
-use Rattle.parser.specs.declared.fault.Flaw.{Flaw}
-use Rattle.parser.specs.Words.{word_at, flaw}
-use Rattle.parser.specs.Reading.{is_idle}
-use Rattle.parser.specs.Faults.{IsWordStart, IsWordEnd, IsWrongWord, IsWordOf}
+use Rattle.parser.proofs.Names.{List, Some, [], ap, append-nil, append_assoc, arith, drop, inl, inr, length}
+use Rattle.parser.proofs.Names.{length-append, refl, sym, take, ℕ, ◌++◌, ◌+◌, ◌<◌, ◌∙◌, ◌∷◌, ◌≡◌, ◌≢◌, ◌≤◌}
+use Rattle.parser.proofs.Names.{take-append_seam, nat_tests, length-take, take-append-drop, All, AllByRecursion}
+use Rattle.parser.proofs.Names.{IsWordEnd, IsWrongWord, is_idle, flaw, word_at, FaultKind, Flaw}
+use Rattle.parser.specs.Faults.{IsWordStart, IsWordOf}
 use Rattle.parser.proofs.Lists.{all_from}
 use Rattle.parser.proofs.WordPlaces.{HasNoSpace, cut_by_space, word_place, IsPlace, IsWordAt}
 

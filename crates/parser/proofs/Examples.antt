@@ -1,22 +1,15 @@
 -- Small texts with a fault, parts of lines, and the words of orders, worked out.
-use Rattle.std.proofs.Common.{◌≡◌, ℕ, List, [], ◌∷◌, ◌++◌, None, refl}
-use Rattle.std.specs.Prelude.{Result, Ok, Err, codes}
-use Rattle.std.specs.Fmt.{decimal}
+use Rattle.parser.proofs.Names.{List, None, [], refl, ℕ, ◌++◌, ◌∷◌, ◌≡◌, decimal, Err, Ok, Result, codes, Thread}
+use Rattle.parser.proofs.Names.{Worker, heap_in, memory_at, page_size_at, sizes_at, order_of, verb_in, numbers_at}
+use Rattle.parser.proofs.Names.{numbers_by, operand_at, operands_at, order_at, finished, first_word, heap_line}
+use Rattle.parser.proofs.Names.{last_line, line_in, lines_in, script_in, order_words, verb_of, flaw, address_at}
+use Rattle.parser.proofs.Names.{capped_from, end_at, fixed_at, is_number, number_at, point_parts, small_at, word_at}
+use Rattle.parser.proofs.Names.{word_or, Flaw, Sizes, Order, Verb}
 use Rattle.parser.specs.declared.fault.FaultKind.TheVariants as kinds
-use Rattle.parser.specs.declared.fault.Flaw.{Flaw}
-use Rattle.parser.specs.declared.heading.Sizes.{Sizes}
-use Rattle.parser.specs.declared.order.Order.{Order}
-use Rattle.parser.specs.declared.verbs.Verb.{Verb}
 use Rattle.parser.specs.declared.verbs.Verb.TheVariants as verbs
-use Rattle.model.specs.declared.steps.Actor.TheVariants.{Thread, Worker}
 use Rattle.model.specs.declared.steps.Step.TheVariants as steps
-use Rattle.parser.specs.Words.{flaw, word_at, word_or, fixed_at, is_number, capped_from, number_at, small_at, end_at}
-use Rattle.parser.specs.Words.{point_parts, address_at}
-use Rattle.parser.specs.Orders.{verb_in, order_of, numbers_by, numbers_at, operand_at, operands_at, order_at, step_of}
-use Rattle.parser.specs.Headings.{page_size_at, memory_at, sizes_at, heap_in}
-use Rattle.parser.specs.Verbs.{verb_of}
-use Rattle.parser.specs.Spelling.{register_word, order_words}
-use Rattle.parser.specs.Reading.{first_word, heap_line, line_in, finished, last_line, lines_in, script_in}
+use Rattle.parser.specs.Orders.{step_of}
+use Rattle.parser.specs.Spelling.{register_word}
 
 -- no bytes
 nothing_at_all : script_in [] ≡ Err (record { line = 1; column = 1; kind = kinds.HeapLineExpected })
@@ -30,8 +23,7 @@ unfolding script_in lines_in line_in heap_line first_word word_at
 no_heap_line = refl
 
 -- a heap line that ends after its first word
-no_words : script_in (codes "heap" ++ 10 ∷ [])
-    ≡ Err (record { line = 1; column = 5; kind = kinds.UnknownWord })
+no_words : script_in (codes "heap" ++ 10 ∷ []) ≡ Err (record { line = 1; column = 5; kind = kinds.UnknownWord })
 unfolding script_in lines_in line_in heap_line first_word word_at heap_in sizes_at memory_at page_size_at fixed_at
     word_or
 no_words = refl

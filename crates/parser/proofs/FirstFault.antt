@@ -1,32 +1,20 @@
 -- The fault that reading finds is the first one.
-use Rattle.std.proofs.Common.{◌≡◌, ◌≢◌, ℕ, true, false, Bool, ◌+◌, List, [], ◌∷◌, ◌++◌, length, Option, Some, None}
-use Rattle.std.proofs.Common.{refl, sym, ap, subst, ◌∙◌, arith, inl, inr, append-nil, append_assoc, cond}
-use Rattle.std.specs.Prelude.{Result, Ok, Err, ◌==◌, ◌⊎◌, filter}
-use Rattle.std.specs.List.{AllByRecursion, slice_split, join_with_byte}
-use Rattle.std.proofs.lemmas.Bool.Decides.{nat_tests}
-use Rattle.std.proofs.lemmas.List.Elements.{filter-append}
-use Rattle.std.proofs.lemmas.List.Splits.{join_with_byte-slice_split}
-use Rattle.parser.specs.declared.fault.FaultKind.{FaultKind}
+use Rattle.parser.proofs.Names.{Bool, List, None, Option, Some, [], ap, append-nil, append_assoc, arith, cond, false}
+use Rattle.parser.proofs.Names.{inl, inr, length, refl, subst, sym, true, ℕ, ◌++◌, ◌+◌, ◌∙◌, ◌∷◌, ◌≡◌, ◌≢◌, ◌⊎◌}
+use Rattle.parser.proofs.Names.{nat_tests, join_with_byte-slice_split, AllByRecursion, join_with_byte, slice_split}
+use Rattle.parser.proofs.Names.{Err, Ok, Result, filter, ◌==◌, Layout, IsFirstFault, IsLineEnd, IsWrongWord}
+use Rattle.parser.proofs.Names.{LacksNewline, StandsAtEnd, StandsInLine, text_of, ReadSoFar, closed, fault_at_start}
+use Rattle.parser.proofs.Names.{newline, nothing, whole, finished, lines_in, script_in, IsReadOf, ParsedScript}
+use Rattle.parser.proofs.Names.{says_something, FaultKind, LineFault, ParseFault, Sizes}
 use Rattle.parser.specs.declared.fault.FaultKind.TheVariants as kinds
-use Rattle.parser.specs.declared.fault.LineFault.{LineFault}
-use Rattle.parser.specs.declared.fault.ParseFault.{ParseFault}
 use Rattle.parser.specs.declared.fault.ParseFault.TheVariants as faults
-use Rattle.layout.specs.declared.shape.Layout.{Layout}
-use Rattle.parser.specs.declared.heading.Sizes.{Sizes}
-use Rattle.parser.specs.Reading.{ReadSoFar, nothing, newline, closed, whole, finished, lines_in, script_in}
-use Rattle.parser.specs.Reading.{fault_at_start}
-use Rattle.parser.specs.Scripts.{IsReadOf, ParsedScript}
-use Rattle.parser.specs.Spelling.{says_something}
-use Rattle.parser.specs.Faults.{text_of, IsLineEnd, StandsInLine, StandsAtEnd, LacksNewline, IsFirstFault}
-use Rattle.parser.specs.Faults.{IsMissingBehind, IsWrongWord, TellsFirst}
+use Rattle.parser.specs.Faults.{IsMissingBehind, TellsFirst}
 use Rattle.parser.proofs.Lists.{all_back, split_cons}
-use Rattle.parser.proofs.Lists.{HasNoNewlines, all_from, all_front, all_push, split_lines, lines_from, told}
-use Rattle.parser.proofs.Lists.{filter_told}
-use Rattle.parser.proofs.ReadIsSpelled.{line_ok}
+use Rattle.parser.proofs.Lists.{HasNoNewlines, all_from, all_front, all_push, split_lines, lines_from}
 use Rattle.parser.proofs.SaidSoFar.{IsBehind, Said, some_layouts}
-use Rattle.parser.proofs.SpelledIsRead.{Leads, spelled_is_read}
-use Rattle.parser.proofs.Stops.{leads_said, IsWrong, IsMissing, IsUnended, StopsAt, stops}
-use Rattle.parser.proofs.Completions.{open_ends, not_started, taken_have_none}
+use Rattle.parser.proofs.SpelledIsRead.{leads_both, Leads, spelled_is_read}
+use Rattle.parser.proofs.Stops.{IsWrong, IsMissing, IsUnended, StopsAt, stops}
+use Rattle.parser.proofs.Completions.{open_ends, not_started, taken_have_none, all_leads_said}
 use Rattle.parser.proofs.LineFaults.{fault_placed}
 use Rattle.parser.proofs.RightUpTo.{right_up_to}
 use Rattle.parser.proofs.Stops.{never_begins}
@@ -82,8 +70,9 @@ one_more k = omega arith
 
 in_line : (bytes : List ℕ) (before : List (List ℕ)) (line : List ℕ) (others : List (List ℕ)) (n : ℕ) (t : ReadSoFar)
     (fault : LineFault) → HasLines bytes before line others → n ≡ 1 + length before → Leads before nothing t
-    → Said (filter says_something before) t → IsWrong n t line fault → StandsInLine bytes fault
-in_line bytes before line others n t fault has number leads so_far why =
+    → IsWrong n t line fault → StandsInLine bytes fault
+in_line bytes before line others n t fault has number leads why =
+    let so_far = all_leads_said before t leads in
     let at = fault_placed line t why.flaw (filter says_something before) so_far why.wrong in
     record {
       before = before;
@@ -101,8 +90,8 @@ in_line bytes before line others n t fault has number leads so_far why =
       column = ap (λ (x : LineFault). x.column) (sym why.fault_is) ∙ at.column;
       wrong = subst (λ (x : FaultKind). IsWrongWord x at.front at.word)
           (ap (λ (x : LineFault). x.kind) why.fault_is) at.wrong;
-      faultless = taken_have_none before t has.each so_far;
-      right = right_up_to before line t why.flaw has.each has.own so_far why.wrong at;
+      faultless = taken_have_none before t has.each leads;
+      right = right_up_to before line t why.flaw has.each has.own leads why.wrong at;
       never = never_begins before line at.front at.word at.back t why.flaw has.each has.own leads why.wrong
           at.is.line_is at.is.ends at.column;
     }
@@ -130,9 +119,8 @@ heap_alone said r b none =
 
 behind_missing : (lines : List (List ℕ)) (n : ℕ) (r : ReadSoFar) (b : IsBehind (filter says_something lines) r)
     (fault : LineFault) (none : Bool) (o : Option ℕ) → AllByRecursion HasNoNewlines lines
-    → (length r.layouts == 0) ≡ none → r.turns ≡ o
-    → cond none (Err (fault_at_start n kinds.LayoutLineExpected)) (closed n r b.sizes o) ≡ Err fault
-    → IsToldMissing lines n fault
+    → (length r.layouts == 0) ≡ none → r.turns ≡ o → cond none (Err (fault_at_start n kinds.LayoutLineExpected))
+    (closed n r b.sizes o) ≡ Err fault → IsToldMissing lines n fault
 behind_missing lines n r b fault true o each none turns h = record {
   kind = kinds.LayoutLineExpected;
   missing = (b.heap, heap_alone (filter says_something lines) r b none);
@@ -145,9 +133,8 @@ behind_missing lines n r b fault false (Some k) each some turns h = record {
   fault_is = same_fault (fault_at_start n kinds.TimesWithoutEnd) fault h;
 }
 
-told_missing : (lines : List (List ℕ)) (n : ℕ) (r : ReadSoFar) (fault : LineFault)
-    → AllByRecursion HasNoNewlines lines → Said (filter says_something lines) r → finished n r ≡ Err fault
-    → IsToldMissing lines n fault
+told_missing : (lines : List (List ℕ)) (n : ℕ) (r : ReadSoFar) (fault : LineFault) → AllByRecursion HasNoNewlines lines
+    → Said (filter says_something lines) r → finished n r ≡ Err fault → IsToldMissing lines n fault
 unfolding finished
 told_missing lines n r fault each (inl before) h =
     let e : whole n nothing None ≡ Err fault = subst (λ (x : ReadSoFar). whole n x x.sizes ≡ Err fault) before.is h in
@@ -163,9 +150,9 @@ told_missing lines n r fault each (inr b) h =
 
 at_end : (bytes : List ℕ) (before : List (List ℕ)) (line : List ℕ) (others : List (List ℕ)) (n : ℕ) (t : ReadSoFar)
     (fault : LineFault) → HasLines bytes before line others → n ≡ 1 + length before
-    → Said (filter says_something before) t → IsMissing n t line others fault → StandsAtEnd bytes fault
-at_end bytes before line others n t fault has number so_far why =
-    let told = told_missing before n t fault has.each so_far why.missing in
+    → Leads before nothing t → IsMissing n t line others fault → StandsAtEnd bytes fault
+at_end bytes before line others n t fault has number leads why =
+    let told = told_missing before n t fault has.each (all_leads_said before t leads) why.missing in
     record {
       lines = before;
       each = lines_from before has.each;
@@ -174,19 +161,14 @@ at_end bytes before line others n t fault has number so_far why =
       column = ap (λ (x : LineFault). x.column) (sym told.fault_is);
       missing = subst (λ (x : FaultKind). IsMissingBehind before x) (ap (λ (x : LineFault). x.kind) told.fault_is)
           told.missing;
-      faultless = taken_have_none before t has.each so_far;
+      faultless = taken_have_none before t has.each leads;
     }
 
 no_newline : (bytes : List ℕ) (before : List (List ℕ)) (line : List ℕ) (others : List (List ℕ)) (n : ℕ) (t : ReadSoFar)
     (fault : LineFault) → HasLines bytes before line others → n ≡ 1 + length before
-    → Said (filter says_something before) t → IsUnended n t line others fault → LacksNewline bytes fault
-no_newline bytes before line others n t fault has number so_far why =
+    → Leads before nothing t → IsUnended n t line others fault → LacksNewline bytes fault
+no_newline bytes before line others n t fault has number leads why =
     let each = all_push HasNoNewlines before line has.each has.own in
-    let after : Said (filter says_something (before ++ line ∷ [])) why.state =
-    subst (λ (x : List (List ℕ)). Said x why.state) (ap (λ (x : List (List ℕ)). filter says_something before ++ x)
-    (sym (append-nil (told says_something line)) ∙ sym (filter_told says_something line []))
-    ∙ sym (filter-append says_something before (line ∷ [])))
-    (line_ok (filter says_something before) t why.state line so_far why.taken) in
     record {
       before = before;
       line = line;
@@ -197,7 +179,8 @@ no_newline bytes before line others n t fault has number so_far why =
       number = ap (λ (x : LineFault). x.line) (sym why.fault_is) ∙ number ∙ one_more (length before);
       column = ap (λ (x : LineFault). x.column) (sym why.fault_is);
       kind = ap (λ (x : LineFault). x.kind) (sym why.fault_is);
-      faultless = taken_have_none (before ++ line ∷ []) why.state each after;
+      faultless = taken_have_none (before ++ line ∷ []) why.state each
+          (leads_both before (line ∷ []) nothing t why.state leads (why.state, (why.taken, refl)));
     }
 
 -- ---- all cases
@@ -207,19 +190,17 @@ places : (bytes : List ℕ) (fault : LineFault) (lines : List (List ℕ)) (stop 
     → (StandsInLine bytes fault ⊎ StandsAtEnd bytes fault) ⊎ LacksNewline bytes fault
 places bytes fault lines stop cut =
     let has = has_lines bytes stop.before stop.line stop.others (cut ∙ stop.lines_are) in
-    let start : Said [] nothing = inl (record { said_is = refl; is = refl }) in
-    let so_far = leads_said stop.before [] nothing stop.state start stop.leads in
     elim stop.why [
       | inl w ↦
           elim w [
             | inl why ↦ inl (inl (in_line bytes stop.before stop.line stop.others stop.number stop.state fault has
-                stop.number_is stop.leads so_far why))
+                stop.number_is stop.leads why))
             | inr why ↦ inl (inr (at_end bytes stop.before stop.line stop.others stop.number stop.state fault has
-                stop.number_is so_far why))
+                stop.number_is stop.leads why))
           ]
       | inr why ↦
-          inr (no_newline bytes stop.before stop.line stop.others stop.number stop.state fault has stop.number_is so_far
-          why)
+          inr (no_newline bytes stop.before stop.line stop.others stop.number stop.state fault has stop.number_is
+          stop.leads why)
     ]
 
 no_ok : {A : Type 0} (f : LineFault) (s : A) → ◌≡◌ {A = Result A LineFault} (Err f) (Ok s) → ⊥

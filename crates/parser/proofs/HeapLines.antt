@@ -1,22 +1,15 @@
 -- The heap line and the layout lines: what is read is spelled so, and what is spelled so is read.
-use Rattle.std.proofs.Common.{◌≡◌, ℕ, ◌^◌, ◌<◌, ◌≤◌, cond, true, false, List, [], ◌∷◌, ◌++◌}
-use Rattle.std.proofs.Common.{Option, Some, None, refl, sym, ap, subst, ◌∙◌, arith, inl, inr, lit<, lit≤, append-nil}
-use Rattle.std.specs.Prelude.{Result, Ok, Err, not, codes}
-use Rattle.std.specs.Str.{bytes_eq}
-use Rattle.std.specs.Fmt.{decimal}
-use Rattle.std.proofs.lemmas.Slice.Eq.{bytes_eq-Decides}
-use Rattle.std.proofs.lemmas.Bool.{not-false}
-use Rattle.model.specs.Configs.{is_page_size}
-use Rattle.model.proofs.Ranges.{page_size_range}
+use Rattle.parser.proofs.Names.{List, None, Option, Some, [], ap, append-nil, arith, cond, false, inl, inr, lit<}
+use Rattle.parser.proofs.Names.{refl, subst, sym, true, ℕ, ◌++◌, ◌<◌, ◌^◌, ◌∙◌, ◌∷◌, ◌≡◌, ◌≤◌, not-false}
+use Rattle.parser.proofs.Names.{bytes_eq-Decides, decimal, Err, Ok, Result, codes, not, bytes_eq, page_size_range}
+use Rattle.parser.proofs.Names.{is_page_size, config_of, heap_in, memory_at, page_size_at, sizes_at, SpellsLimit}
+use Rattle.parser.proofs.Names.{size_words, flaw, ◌>>=◌, fixed_at, number_at, word_at, Flaw, Sizes}
+use Rattle.std.proofs.Common.{lit≤}
 use Rattle.parser.specs.declared.fault.FaultKind.TheVariants as kinds
-use Rattle.parser.specs.declared.fault.Flaw.{Flaw}
-use Rattle.parser.specs.declared.heading.Sizes.{Sizes}
 use Rattle.model.specs.declared.limits.TheConstants.{MOST_PAGES}
 use Rattle.parser.specs.declared.limits.TheConstants.{MOST_FRAMES, MOST_THREADS}
-use Rattle.parser.specs.Words.{◌>>=◌, flaw, word_at, fixed_at, number_at}
-use Rattle.parser.specs.Headings.{config_of, field_at, page_size_at, limit_in, limit_at}
-use Rattle.parser.specs.Headings.{sizes_of, memory_at, actors_at, limits_at, sizes_at, heap_in}
-use Rattle.parser.specs.Spelling.{size_words, SpellsLimit}
+use Rattle.parser.specs.Headings.{field_at, limit_in, limit_at}
+use Rattle.parser.specs.Headings.{sizes_of, actors_at, limits_at}
 use Rattle.parser.proofs.Numbers.{IsPlain, number_plain}
 use Rattle.parser.proofs.Places.{words_from, found_word, past_end, Reads}
 use Rattle.parser.proofs.Places.{fixed_again, number_again, end_again}
@@ -28,6 +21,7 @@ use Rattle.parser.proofs.WordTrees.{Any, IsLast, bind_assoc, fail_run, past_run,
 use Rattle.parser.proofs.WordTrees.{weaker, good_map, fixed_tree, fixed_run, fixed_good, IsText, number_or, number_tree}
 use Rattle.parser.proofs.WordTrees.{number_or_run, number_run, number_or_sound, number_good, IsNumberOf}
 use Rattle.parser.proofs.WordTrees.{values, whole_tree, whole_run, whole_good, whole_ends, narrower}
+use Rattle.parser.proofs.Trees.{Words, Sense, Rest}
 
 -- ---- a number after its name
 
@@ -36,7 +30,7 @@ abbrev pub IsWithin : ℕ → ℕ → ℕ → Type 0
 IsWithin low high n = (low ≤ n) × (n ≤ high)
 
 -- a number from low to high is spelled after its name
-pub record IsField (name : List ℕ) (low high n : ℕ) (ws : List (List ℕ)) : Type 0 where
+pub record IsField (name : List ℕ) (low high n : ℕ) (ws : Words) : Type 0 where
   pub words_are : ws ≡ name ∷ decimal n ∷ []
   pub within : IsWithin low high n
 
@@ -56,7 +50,7 @@ unfolding field_at
 field_run line name low high at = fixed_then (number_tree low high) line at name _
     (λ after. number_run line after low high)
 
-field_again : (line : List ℕ) (at : ℕ) (name : List ℕ) (low high n : ℕ) (rest : List (List ℕ)) → high < 2 ^ 64
+field_again : (line : List ℕ) (at : ℕ) (name : List ℕ) (low high n : ℕ) (rest : Words) → high < 2 ^ 64
     → IsWithin low high n → words_from line at ≡ name ∷ decimal n ∷ rest
     → Reads line (field_at line at name low high) n rest
 unfolding field_at
@@ -67,13 +61,13 @@ field_again line at name low high n rest fits within h =
     (b.0, rw (a.1, b.1) refl, b.2)
 
 -- what is good after a name
-after_good : {A : Type 0} (name : List ℕ) (t : Tree A) (P Q : A → List (List ℕ) → Type 0) → IsPlain name
-    → ((x : A) (ws : List (List ℕ)) → P x ws → Q x (name ∷ ws)) → IsGood Any P t
+after_good : {A : Type 0} (name : List ℕ) (t : Tree A) (P Q : Sense A) → IsPlain name
+    → ((x : A) (ws : Words) → P x ws → Q x (name ∷ ws)) → IsGood Any P t
     → IsGood Any Q (chain (fixed_tree name) (λ u. t))
 after_good {A} name t P Q plain h g =
     good_chain Any Any (λ (u : Unit {0}). t) (IsText name) Q (fixed_tree name) (fixed_good name plain) (record {
       good = λ u ws is. weaker Any P (λ (x : A) vs. Q x (ws ++ vs)) t
-          (λ x vs p. subst (λ (us : List (List ℕ)). Q x (us ++ vs)) (sym is) (h x vs p)) g;
+          (λ x vs p. subst (λ (us : Words). Q x (us ++ vs)) (sym is) (h x vs p)) g;
       follows = λ u ws is rest may. tt;
     })
 
@@ -81,18 +75,18 @@ field_good : (name : List ℕ) (low high : ℕ) → IsPlain name → low ≤ hig
     → IsGood Any (IsField name low high) (field_tree name low high)
 field_good name low high plain some fits =
     after_good name (number_tree low high) (IsNumberOf low high) (IsField name low high) plain (λ n ws is.
-    record { words_are = ap (λ (x : List (List ℕ)). name ∷ x) is.words_are; within = (is.above, is.below) })
+    record { words_are = ap (λ (x : Words). name ∷ x) is.words_are; within = (is.above, is.below) })
     (number_good low high some fits)
 
 -- ---- the words of a page
 
 -- a page size is spelled
-pub record IsSize (n : ℕ) (ws : List (List ℕ)) : Type 0 where
+pub record IsSize (n : ℕ) (ws : Words) : Type 0 where
   pub words_are : ws ≡ decimal n ∷ []
   pub size : is_page_size n ≡ true
 
 -- a page size is spelled after its name
-pub record IsPageSize (n : ℕ) (ws : List (List ℕ)) : Type 0 where
+pub record IsPageSize (n : ℕ) (ws : Words) : Type 0 where
   pub words_are : ws ≡ codes "words" ∷ decimal n ∷ []
   pub size : is_page_size n ≡ true
 
@@ -115,7 +109,7 @@ unfolding page_size_at
 page_size_run line at = fixed_then size_tree line at (codes "words") _
     (λ after. number_or_run line after 16 32768 sized _ (sized_run line after))
 
-page_size_again : (line : List ℕ) (at n : ℕ) (rest : List (List ℕ)) → is_page_size n ≡ true
+page_size_again : (line : List ℕ) (at n : ℕ) (rest : Words) → is_page_size n ≡ true
     → words_from line at ≡ codes "words" ∷ decimal n ∷ rest → Reads line (page_size_at line at) n rest
 unfolding page_size_at
 page_size_again line at n rest size h =
@@ -147,12 +141,12 @@ size_good = record {
 
 page_size_good : IsGood Any IsPageSize page_size_tree
 page_size_good = after_good (codes "words") size_tree IsSize IsPageSize refl (λ n ws is.
-    record { words_are = ap (λ (x : List (List ℕ)). codes "words" ∷ x) is.words_are; size = is.size }) size_good
+    record { words_are = ap (λ (x : Words). codes "words" ∷ x) is.words_are; size = is.size }) size_good
 
 -- ---- limits
 
 -- a limit is spelled after its name, or omitted
-pub record IsLimit (name : List ℕ) (most n : ℕ) (ws : List (List ℕ)) : Type 0 where
+pub record IsLimit (name : List ℕ) (most n : ℕ) (ws : Words) : Type 0 where
   pub is : SpellsLimit name most n ws
   pub within : IsWithin 1 most n
 
@@ -176,11 +170,11 @@ limit_run line name most at = by_word (word_at line at) refl
         ∙ number_run line w.1 1 most) refl
 
 -- the words don't begin with this name
-abbrev IsNotHeaded : List ℕ → List (List ℕ) → Type 0
+abbrev IsNotHeaded : List ℕ → Rest
 IsNotHeaded name [] = Unit {0}
 IsNotHeaded name (w ∷ ws) = bytes_eq w name ≡ false
 
-limit_absent : (line : List ℕ) (at : ℕ) (name : List ℕ) (most : ℕ) (rest : List (List ℕ)) → IsNotHeaded name rest
+limit_absent : (line : List ℕ) (at : ℕ) (name : List ℕ) (most : ℕ) (rest : Words) → IsNotHeaded name rest
     → words_from line at ≡ rest → limit_at line at name most ≡ Ok (most, at)
 unfolding limit_at
 limit_absent line at name most [] other h = rw (none_past line at (past_end line at h)) refl
@@ -192,16 +186,16 @@ unfolding limit_at
 limit_named line at name most after found =
     let same : bytes_eq name name ≡ true = (bytes_eq-Decides name name).1 refl in rw (found, same) refl
 
-limit_again : (line : List ℕ) (at : ℕ) (name : List ℕ) (most n : ℕ) (ws rest : List (List ℕ)) → most < 2 ^ 64
+limit_again : (line : List ℕ) (at : ℕ) (name : List ℕ) (most n : ℕ) (ws rest : Words) → most < 2 ^ 64
     → SpellsLimit name most n ws → IsWithin 1 most n → IsNotHeaded name rest → words_from line at ≡ ws ++ rest
     → Reads line (limit_at line at name most) n rest
 limit_again line at name most n ws rest fits (inl e) within other h =
     let below = within.1 in
-    let found = found_word line at name (decimal n ∷ rest) (h ∙ ap (λ (t : List (List ℕ)). t ++ rest) e) in
+    let found = found_word line at name (decimal n ∷ rest) (h ∙ ap (λ (t : Words). t ++ rest) e) in
     let read = number_again line found.0 1 most n rest (omega arith) within.0 below found.2 in
     (read.0, limit_named line at name most found.0 found.1 ∙ read.1, read.2)
 limit_again line at name most n ws rest fits (inr e) within other h =
-    let same : words_from line at ≡ rest = h ∙ ap (λ (t : List (List ℕ)). t ++ rest) e.0 in
+    let same : words_from line at ≡ rest = h ∙ ap (λ (t : Words). t ++ rest) e.0 in
     (at, limit_absent line at name most rest other same ∙ ap (λ (t : ℕ). Ok (t, at)) (sym e.1), same)
 
 limit_good : (name : List ℕ) (most : ℕ) → IsPlain name → 1 ≤ most → most < 2 ^ 64
@@ -257,9 +251,9 @@ pub record IsSizes (s : Sizes) : Type 0 where
   pub history : IsWithin 1 1000000 s.history
 
 -- words spell sizes
-pub record SpellsSizes (s : Sizes) (ws : List (List ℕ)) : Type 0 where
-  pub births : List (List ℕ)
-  pub history : List (List ℕ)
+pub record SpellsSizes (s : Sizes) (ws : Words) : Type 0 where
+  pub births : Words
+  pub history : Words
   pub births_spelled : SpellsLimit (codes "births") (2 ^ 32) s.births births
   pub history_spelled : SpellsLimit (codes "history") 1000000 s.history history
   pub words_are : ws ≡ size_words (config_of s []) ++ births ++ history
@@ -275,17 +269,15 @@ three r s t make = chain r (λ a. chain s (λ b. chain (t b) (λ c. Done (make a
 three_run : {A B C D : Type 0} (r : Tree A) (s : Tree B) (t : B → Tree C) (make : A → B → C → D) (line : List ℕ)
     (at : ℕ) (x : Result (A × ℕ) Flaw) (y : ℕ → Result (B × ℕ) Flaw) (z : B → ℕ → Result (C × ℕ) Flaw)
     → run r line at ≡ x → ((at : ℕ) → run s line at ≡ y at) → ((b : B) (at : ℕ) → run (t b) line at ≡ z b at)
-    → run (three r s t make) line at
-    ≡ (x >>= (λ a. y a.1 >>= (λ b. z b.0 b.1 >>= (λ c. Ok (make a.0 b.0 c.0, c.1)))))
+    → run (three r s t make) line at ≡ (x >>= (λ a. y a.1 >>= (λ b. z b.0 b.1 >>= (λ c. Ok (make a.0 b.0 c.0, c.1)))))
 three_run r s t make line at x y z p q o =
     chained r _ line at x _ p (λ a. chained s _ line a.1 (y a.1) _ (q a.1) (λ b.
     chained (t b.0) _ line b.1 (z b.0 b.1) _ (o b.0 b.1) (λ c. refl)))
 
-three_good : {A B C D : Type 0} (r : Tree A) (s : Tree B) (t : B → Tree C) (make : A → B → C → D)
-    (R : A → List (List ℕ) → Type 0) (S : B → List (List ℕ) → Type 0) (T : B → C → List (List ℕ) → Type 0)
-    (Q : D → List (List ℕ) → Type 0) → IsGood Any R r → IsGood Any S s
-    → ((b : B) (ws : List (List ℕ)) → S b ws → IsGood Any (T b) (t b))
-    → ((a : A) (b : B) (c : C) (u v w : List (List ℕ)) → R a u → S b v → T b c w → Q (make a b c) (u ++ (v ++ w)))
+three_good : {A B C D : Type 0} (r : Tree A) (s : Tree B) (t : B → Tree C) (make : A → B → C → D) (R : Sense A)
+    (S : Sense B) (T : B → Sense C) (Q : Sense D) → IsGood Any R r → IsGood Any S s
+    → ((b : B) (ws : Words) → S b ws → IsGood Any (T b) (t b))
+    → ((a : A) (b : B) (c : C) (u v w : Words) → R a u → S b v → T b c w → Q (make a b c) (u ++ (v ++ w)))
     → IsGood Any Q (three r s t make)
 three_good {A} {B} {C} {D} r s t make R S T Q p q o h = good_chain Any Any _ R Q r p (record {
   good = λ a u is. good_chain Any Any (λ (b : B). chain (t b) (λ c. Done (make a b c))) S
@@ -339,22 +331,21 @@ heap_run line at = whole_run sizes_tree line at _ (three_run memory_tree actors_
     (λ (actors : Numbers). limits_tree) sizes_of line at _ _ _ (memory_run line at)
     (actors_run line) (λ actors. limits_run line))
 
-record IsMemory (v : Numbers) (ws : List (List ℕ)) : Type 0 where
+record IsMemory (v : Numbers) (ws : Words) : Type 0 where
   words_are : ws ≡ codes "words" ∷ decimal v.0 ∷ codes "frames" ∷ decimal v.1 ∷ codes "pages" ∷ decimal v.2 ∷ []
   size : is_page_size v.0 ≡ true
   frames : IsWithin 1 MOST_FRAMES v.1
   pages : IsWithin v.1 MOST_PAGES v.2
 
-record AreActors (v : Numbers) (ws : List (List ℕ)) : Type 0 where
-  words_are : ws ≡ codes "threads" ∷ decimal v.0 ∷ codes "workers" ∷ decimal v.1 ∷ codes "registers" ∷ decimal v.2
-      ∷ []
+record AreActors (v : Numbers) (ws : Words) : Type 0 where
+  words_are : ws ≡ codes "threads" ∷ decimal v.0 ∷ codes "workers" ∷ decimal v.1 ∷ codes "registers" ∷ decimal v.2 ∷ []
   threads : IsWithin 1 MOST_THREADS v.0
   workers : IsWithin 1 16 v.1
   registers : IsWithin 1 16 v.2
 
-record AreLimits (v : Numbers) (ws : List (List ℕ)) : Type 0 where
-  births : List (List ℕ)
-  history : List (List ℕ)
+record AreLimits (v : Numbers) (ws : Words) : Type 0 where
+  births : Words
+  history : Words
   words_are : ws ≡ codes "globals" ∷ decimal v.0 ∷ (births ++ history)
   globals : IsWithin 0 64 v.0
   births_is : IsLimit (codes "births") 4294967296 v.1 births
@@ -429,7 +420,7 @@ pub heap_ends : EndsAt None heap_tree
 heap_ends = whole_ends sizes_tree None
 
 -- the words of a history don't begin with births
-not_births : (n : ℕ) (words : List (List ℕ)) → SpellsLimit (codes "history") 1000000 n words
+not_births : (n : ℕ) (words : Words) → SpellsLimit (codes "history") 1000000 n words
     → IsNotHeaded (codes "births") words
 not_births n words (inl e) = subst (IsNotHeaded (codes "births")) (sym e) refl
 not_births n words (inr e) = subst (IsNotHeaded (codes "births")) (sym e.0) tt

@@ -1,17 +1,9 @@
 -- The layout lines: what is read is spelled so, and what is spelled so is read.
-use Rattle.std.proofs.Common.{◌≡◌, ℕ, ◌+◌, ◌≤◌, cond, true, false, nat_lt, List, [], ◌∷◌}
-use Rattle.std.proofs.Common.{Option, Some, None, refl, ap, subst, ◌∙◌, arith, lit<}
-use Rattle.std.specs.Prelude.{Result, Ok, Err, Bool}
-use Rattle.std.specs.Fmt.{decimal}
-use Rattle.std.proofs.lemmas.Bool.{ltb-false, le-ltb}
-use Rattle.layout.specs.declared.shape.Layout.{Layout}
-use Rattle.model.proofs.Results.{same_result, not_refused}
+use Rattle.parser.proofs.Names.{Bool, List, None, Option, Some, [], ap, arith, cond, false, lit<, nat_lt, refl, subst}
+use Rattle.parser.proofs.Names.{true, ℕ, ◌+◌, ◌∙◌, ◌∷◌, ◌≡◌, ◌≤◌, le-ltb, ltb-false, decimal, Err, Ok, Result, Layout}
+use Rattle.parser.proofs.Names.{not_refused, same_result, layout_in, IsLayout, flaw, ◌>>=◌, end_at, number_at}
+use Rattle.parser.proofs.Names.{word_at, Flaw, Sizes}
 use Rattle.parser.specs.declared.fault.FaultKind.TheVariants as kinds
-use Rattle.parser.specs.declared.fault.Flaw.{Flaw}
-use Rattle.parser.specs.declared.heading.Sizes.{Sizes}
-use Rattle.parser.specs.Words.{◌>>=◌, flaw, word_at, number_at, end_at}
-use Rattle.parser.specs.Headings.{layout_in}
-use Rattle.parser.specs.Spelling.{IsLayout}
 use Rattle.parser.proofs.Places.{words_from}
 use Rattle.parser.proofs.Places.{bind_ok, number_again, end_ok, end_again}
 use Rattle.parser.proofs.Trees.{Tree, Done, Fail, Skip, behind_in, run, chain, chained, Lives, IsSound}
@@ -22,6 +14,7 @@ use Rattle.parser.proofs.WordTrees.{Any, bind_assoc, fail_run}
 use Rattle.parser.proofs.WordTrees.{number_or, number_tree}
 use Rattle.parser.proofs.WordTrees.{number_or_run, number_run, number_or_sound, number_good, IsNumberOf, end_tree}
 use Rattle.parser.proofs.WordTrees.{end_in, end_run, values, values_chain}
+use Rattle.parser.proofs.Trees.{Words, Rest}
 
 -- a layout is spelled from a place to the end, and its objects fit
 pub record IsLayoutAt (words : ℕ) (line : List ℕ) (at : ℕ) (l : Layout) : Type 0 where
@@ -102,14 +95,14 @@ layout_run sizes line at =
     by_test l after f r false = bind_assoc r _ _
 
 -- A layout's faults. Not every first number of a layout can be followed by a second one, so nothing may follow it.
-pub layout_good : (May : List (List ℕ) → Type 0) → ((rest : List (List ℕ)) → May rest → ⊥) → (words : ℕ)
-    → IsGood May (λ (l : Layout) (ws : List (List ℕ)). Unit {0}) (layout_tree words)
+pub layout_good : (May : Rest) → ((rest : Words) → May rest → ⊥) → (words : ℕ)
+    → IsGood May (λ (l : Layout) (ws : Words). Unit {0}) (layout_tree words)
 layout_good May never words = good_chain Any May (λ refs. number_or 0 1023 (nums_tree words refs))
-    (IsNumberOf 0 1023) (λ (l : Layout) (ws : List (List ℕ)). Unit {0}) (number_tree 0 1023)
+    (IsNumberOf 0 1023) (λ (l : Layout) (ws : Words). Unit {0}) (number_tree 0 1023)
     (number_good 0 1023 (omega arith) (lit< tt)) (record {
       good = λ refs ws is. record {
         lives = dead (number_or 0 1023 (nums_tree words refs));
-        sound = λ c. number_or_sound May (λ (l : Layout) (ws : List (List ℕ)). Unit {0}) false c 0 1023
+        sound = λ c. number_or_sound May (λ (l : Layout) (ws : Words). Unit {0}) false c 0 1023
             (nums_tree words refs) (lit< tt) (λ n w number is. sound_pick May _ false (Some (Some w))
             (nat_lt words (1 + refs + n)) (Fail kinds.LayoutTooLarge) (Skip (layout_end refs n))
             (λ e front start. number) (λ e. (dead (layout_end refs n), by_layout refs n)));
@@ -117,7 +110,7 @@ layout_good May never words = good_chain Any May (λ refs. number_or 0 1023 (num
       follows = λ refs ws is rest may. tt;
     })
   where
-    dead : (t : Tree Layout) → Lives May (λ (l : Layout) (ws : List (List ℕ)). Unit {0}) t
+    dead : (t : Tree Layout) → Lives May (λ (l : Layout) (ws : Words). Unit {0}) t
     dead t = record {
       words = [];
       plain = tt;
@@ -126,8 +119,7 @@ layout_good May never words = good_chain Any May (λ refs. number_or 0 1023 (num
       reads = λ line at rest may e. absurd (never rest may);
     }
 
-    by_layout : (refs n : ℕ) (o : Option (List ℕ))
-        → IsSound May (λ (l : Layout) (ws : List (List ℕ)). Unit {0}) false (Some o)
-        (chain (end_in o) (λ u. Done (layout_of refs n)))
+    by_layout : (refs n : ℕ) (o : Option (List ℕ)) → IsSound May (λ (l : Layout) (ws : Words). Unit {0}) false
+        (Some o) (chain (end_in o) (λ u. Done (layout_of refs n)))
     by_layout refs n None = tt
     by_layout refs n (Some w) = λ front start. start

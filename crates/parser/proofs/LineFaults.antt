@@ -1,28 +1,12 @@
 -- A line's fault is at a word, with that fault's condition; and each word before it can be followed by correct words.
-use Rattle.parser.specs.Words.{capped_from, is_number}
-use Rattle.std.specs.Prelude.{Result, ◌||◌, nat_le}
-use Rattle.std.proofs.Common.{◌≡◌, ◌≢◌, ℕ, ◌+◌, ◌*◌, ◌≤◌, Bool, true, false, cond, nat_lt, List, [], ◌∷◌, ◌++◌}
-use Rattle.std.proofs.Common.{◌∙◌, length, Option, Some, None, refl, sym, ap, subst, arith, inl, inr, lit<, append-nil}
-use Rattle.std.specs.Prelude.{Ok, Err, ◌==◌, ◌&&◌, not, codes}
-use Rattle.std.specs.Str.{bytes_eq}
-use Rattle.std.specs.Fmt.{decimal}
-use Rattle.std.specs.List.{repeat}
-use Rattle.std.proofs.lemmas.Bool.{lt-ltb, ltb-false}
-use Rattle.std.proofs.lemmas.Bool.Decides.{nat_tests}
-use Rattle.std.proofs.lemmas.Slice.Eq.{bytes_eq-Decides}
-use Rattle.layout.specs.declared.shape.Layout.{Layout}
-use Rattle.model.specs.declared.steps.Actor.{Actor}
-use Rattle.model.specs.declared.steps.Actor.TheVariants.{Thread, Worker}
+use Rattle.parser.proofs.Names.{Bool, List, None, Option, Some, [], ap, append-nil, arith, cond, false, inl, inr}
+use Rattle.parser.proofs.Names.{length, lit<, nat_lt, refl, subst, sym, true, ℕ, ◌*◌, ◌++◌, ◌+◌, ◌∙◌, ◌∷◌, ◌≡◌, ◌≢◌}
+use Rattle.parser.proofs.Names.{◌≤◌, lt-ltb, ltb-false, nat_tests, bytes_eq-Decides, decimal, repeat, Err, Ok, Result}
+use Rattle.parser.proofs.Names.{codes, nat_le, not, ◌&&◌, ◌==◌, ◌||◌, bytes_eq, Layout, same_result, Actor, Thread}
+use Rattle.parser.proofs.Names.{Worker, config_of, first_byte, ReadSoFar, first_word_in, is_full, line_after}
+use Rattle.parser.proofs.Names.{nothing, with_command, first_word, line_in, IsActor, actor_word, line_of, order_words}
+use Rattle.parser.proofs.Names.{capped_from, is_number, Flaw, Sizes, MOST_LAYOUTS, MOST_COMMANDS, MOST_TURNS}
 use Rattle.parser.specs.declared.fault.FaultKind.TheVariants as kinds
-use Rattle.parser.specs.declared.fault.Flaw.{Flaw}
-use Rattle.parser.specs.declared.heading.Sizes.{Sizes}
-use Rattle.parser.specs.declared.limits.TheConstants.{MOST_LAYOUTS}
-use Rattle.parser.specs.declared.reading.TheConstants.{MOST_COMMANDS, MOST_TURNS}
-use Rattle.parser.specs.Headings.{config_of}
-use Rattle.parser.specs.Orders.{first_byte}
-use Rattle.parser.specs.Reading.{first_word_in, first_word, line_after, ReadSoFar, nothing, is_full, with_command, line_in}
-use Rattle.parser.specs.Spelling.{line_of, actor_word, order_words, IsActor}
-use Rattle.model.proofs.Results.{same_result}
 use Rattle.parser.proofs.Places.{words_from}
 use Rattle.parser.proofs.WordPlaces.{finds_word}
 use Rattle.parser.proofs.ActorsAndOrders.{line_is}
@@ -39,6 +23,7 @@ use Rattle.parser.proofs.WordTrees.{sound_pick}
 use Rattle.parser.proofs.LineTrees.{later_step}
 use Rattle.parser.proofs.WordTrees.{Any, IsLast, good_map, narrower, name_in, name_sound, number_tree, number_good, IsNumberOf}
 use Rattle.parser.proofs.WordTrees.{end_ends_at, whole_ends, values, end_tree, end_good, whole_tree, whole_good}
+use Rattle.parser.proofs.Trees.{Words, Sense, Rest, Seen}
 
 other_word : (v w : List ℕ) → bytes_eq v w ≡ false → v ≢ w
 other_word v w h e = let same = (bytes_eq-Decides v w).1 e in absurd cc
@@ -62,18 +47,18 @@ no_layout r word started none h is = by_begun r.begun refl
         absurd cc
 
 -- nothing follows the last word of a line that is no layout line
-abbrev pub Ends : ReadSoFar → List ℕ → List (List ℕ) → Type 0
+abbrev pub Ends : ReadSoFar → List ℕ → Rest
 Ends r w rest = (is_layout_next r w ≡ false) × (rest ≡ [])
 
 -- what the words of a line say, if it is no layout line
-abbrev pub Says : ReadSoFar → Option Sizes → List ℕ → ReadSoFar → List (List ℕ) → Type 0
+abbrev pub Says : ReadSoFar → Option Sizes → List ℕ → ReadSoFar → Rest
 Says r o w u ws = is_layout_next r w ≡ false → IsOtherLine o r u (line_of ws)
 
 head_is : {v w : List ℕ} → v ∷ [] ≡ w ∷ [] → v ≡ w
 head_is e = cc
 
-same_line : (v w : List ℕ) (vs ws : List (List ℕ)) → w ≡ v → ws ≡ vs → line_of (w ∷ ws) ≡ line_of (v ∷ vs)
-same_line v w vs ws e d = ap (λ (x : List ℕ). line_of (x ∷ ws)) e ∙ ap (λ (xs : List (List ℕ)). line_of (v ∷ xs)) d
+same_line : (v w : List ℕ) (vs ws : Words) → w ≡ v → ws ≡ vs → line_of (w ∷ ws) ≡ line_of (v ∷ vs)
+same_line v w vs ws e d = ap (λ (x : List ℕ). line_of (x ∷ ws)) e ∙ ap (λ (xs : Words). line_of (v ∷ xs)) d
 
 module _ (r : ReadSoFar) (w : List ℕ) where
   -- a tree of a line from its first word on
@@ -85,8 +70,8 @@ module _ (r : ReadSoFar) (w : List ℕ) where
   pick o b t u = sound_pick (Ends r w) (Says r o w) true (Some (Some w)) b t u
 
   -- a line's first word is followed by what is read after it
-  past : {A : Type 0} (o : Option Sizes) (P : A → List (List ℕ) → Type 0) (t : Tree A) (f : A → ReadSoFar)
-      → IsGood IsLast P t → ((x : A) (ws : List (List ℕ)) → P x ws → IsOtherLine o r (f x) (line_of (w ∷ ws)))
+  past : {A : Type 0} (o : Option Sizes) (P : Sense A) (t : Tree A) (f : A → ReadSoFar)
+      → IsGood IsLast P t → ((x : A) (ws : Words) → P x ws → IsOtherLine o r (f x) (line_of (w ∷ ws)))
       → IsStep o (Skip (chain t (λ x. Done (f x))))
   past o P t f g h =
       let all = good_map (Ends r w) P (λ (u : ReadSoFar) ws. Says r o w u (w ∷ ws)) f t (λ x ws p other. h x ws p)
@@ -111,8 +96,8 @@ module _ (r : ReadSoFar) (w : List ℕ) where
 
   layout_sound : (z : Sizes) → is_layout_next r w ≡ true → IsStep (Some z) (layout_step r z)
   layout_sound z e =
-      let never = λ (rest : List (List ℕ)) (may : Ends r w rest). let no = may.0 in absurd cc in
-      let all = good_map (Ends r w) (λ (l : Layout) (ws : List (List ℕ)). Unit {0})
+      let never = λ (rest : Words) (may : Ends r w rest). let no = may.0 in absurd cc in
+      let all = good_map (Ends r w) (λ (l : Layout) (ws : Words). Unit {0})
       (λ (u : ReadSoFar) ws. Says r (Some z) w u (w ∷ ws)) (λ l. record r { layouts = r.layouts ++ l ∷ [] })
       (layout_tree z.words) (λ l ws u other. absurd cc) (layout_good (Ends r w) never z.words) in
       (all.lives, all.sound None)
@@ -192,7 +177,7 @@ module _ (r : ReadSoFar) (w : List ℕ) where
       (λ not_end. command_sound z range some most))))
 
   -- a line after lines that are accepted
-  pub line_sound : (most : ℕ) (said : List (List ℕ)) → Said said r → IsStep r.sizes (line_step most r r.sizes w)
+  pub line_sound : (most : ℕ) (said : Words) → Said said r → IsStep r.sizes (line_step most r r.sizes w)
   line_sound most said (inl before) = subst (λ (o : Option Sizes). IsStep o (line_step most r o w))
       (sym (ap (λ (x : ReadSoFar). x.sizes) before.is)) (heap_sound before.is)
   line_sound most said (inr behind) = subst (λ (o : Option Sizes). IsStep o (line_step most r o w))
@@ -200,13 +185,11 @@ module _ (r : ReadSoFar) (w : List ℕ) where
 
 -- ---- a line is read to its end
 
-ends_pick : {A : Type 0} (c : Option (Option (List ℕ))) (b : Bool) (t u : Tree A) → EndsAt c t → EndsAt c u
-    → EndsAt c (cond b t u)
+ends_pick : {A : Type 0} (c : Seen) (b : Bool) (t u : Tree A) → EndsAt c t → EndsAt c u → EndsAt c (cond b t u)
 ends_pick c true t u h k = h
 ends_pick c false t u h k = k
 
-name_ends : {A : Type 0} (letter count : ℕ) (k : ℕ → Tree A) (w : List ℕ)
-    → ((n : ℕ) → EndsAt (Some (Some w)) (k n))
+name_ends : {A : Type 0} (letter count : ℕ) (k : ℕ → Tree A) (w : List ℕ) → ((n : ℕ) → EndsAt (Some (Some w)) (k n))
     → EndsAt (Some (Some w)) (name_in letter count kinds.NoSuchActor k w)
 name_ends letter count k [] h = tt
 name_ends {A} letter count k (b ∷ bs) h = by_test (not (b == letter) || not (is_number bs)) (nat_le count (capped_from 0 bs))
@@ -253,7 +236,7 @@ value_ok (Ok v) x h = (v.1, ap (λ (y : _). Ok (y, v.1)) (same_result v.0 x h))
 value_ok (Err e) x h = absurd cc
 
 -- a line that is accepted says what it adds, if it is no layout line
-pub line_says : (said : List (List ℕ)) (r t : ReadSoFar) (line : List ℕ) → Said said r
+pub line_says : (said : Words) (r t : ReadSoFar) (line : List ℕ) → Said said r
     → is_layout_next r (first_word line).0 ≡ false → line_after r r.sizes line ≡ Ok t → IsOtherLine r.sizes r t line
 unfolding first_word
 line_says said r t line so_far other h =
@@ -269,11 +252,11 @@ line_says said r t line so_far other h =
     subst (λ (o : Option (List ℕ × ℕ)). is_layout_next r (first_word_in o).0 ≡ false) found.found other in
     let none = run_end line (t, v.0) step (Some (Some w)) 0 (line_ends most r w r.sizes own) same v.1 in
     let words : words_from line 0 ≡ b.words =
-    b.spelled ∙ ap (λ (x : List (List ℕ)). b.words ++ x) none ∙ append-nil b.words in
+    b.spelled ∙ ap (λ (x : Words). b.words ++ x) none ∙ append-nil b.words in
     subst (λ (x : List ℕ). IsOtherLine r.sizes r t x) (sym (line_is line b.words words)) (b.is own)
 
 -- a line's fault is at a word of it
-pub fault_placed : (line : List ℕ) (r : ReadSoFar) (f : Flaw) (said : List (List ℕ)) → Said said r → line_in r line ≡ Err f
+pub fault_placed : (line : List ℕ) (r : ReadSoFar) (f : Flaw) (said : Words) → Said said r → line_in r line ≡ Err f
     → IsFaultAt line f
 fault_placed line r f said so_far h =
     let most = length line + 1 in

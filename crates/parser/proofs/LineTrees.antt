@@ -1,24 +1,13 @@
 -- A line as a tree: a line's fault is at a word, and lines that agree up to there have the same fault.
-use Rattle.std.proofs.Common.{◌≡◌, ℕ, ◌+◌, ◌*◌, ◌<◌, ◌≤◌, Bool, true, false, cond, nat_lt, List, [], ◌∷◌, ◌++◌}
-use Rattle.std.proofs.Common.{length, Option, Some, None, refl, sym, ap, subst, ◌∙◌, arith, inl, inr}
-use Rattle.std.specs.Prelude.{Result, Ok, Err, ◌==◌, ◌&&◌, not, codes}
-use Rattle.std.specs.Str.{bytes_eq}
-use Rattle.std.specs.List.{repeat}
-use Rattle.model.specs.declared.steps.Actor.{Actor}
-use Rattle.model.specs.declared.steps.Actor.TheVariants.{Thread, Worker}
-use Rattle.parser.specs.declared.fault.FaultKind.{FaultKind}
+use Rattle.parser.proofs.Names.{Bool, List, None, Option, Some, [], ap, arith, cond, false, inl, inr, length, nat_lt}
+use Rattle.parser.proofs.Names.{refl, subst, sym, true, ℕ, ◌*◌, ◌++◌, ◌+◌, ◌<◌, ◌∙◌, ◌∷◌, ◌≡◌, ◌≤◌, repeat, Err, Ok}
+use Rattle.parser.proofs.Names.{Result, codes, not, ◌&&◌, ◌==◌, bytes_eq, Actor, Thread, Worker, IsWordEnd}
+use Rattle.parser.proofs.Names.{first_byte, actor_at, order_at, ReadSoFar, end_in, first_word_in, is_full, is_idle}
+use Rattle.parser.proofs.Names.{line_after, times_in, with_command, command_line, end_line, first_word, heap_line}
+use Rattle.parser.proofs.Names.{later_line, layout_line, line_in, part_line, times_line, flaw, ◌>>=◌, end_at}
+use Rattle.parser.proofs.Names.{named_at, number_at, word_at, FaultKind, Flaw, Sizes, MOST_LAYOUTS, Order}
+use Rattle.parser.proofs.Names.{MOST_COMMANDS, MOST_TURNS}
 use Rattle.parser.specs.declared.fault.FaultKind.TheVariants as kinds
-use Rattle.parser.specs.declared.fault.Flaw.{Flaw}
-use Rattle.parser.specs.declared.heading.Sizes.{Sizes}
-use Rattle.parser.specs.declared.limits.TheConstants.{MOST_LAYOUTS}
-use Rattle.parser.specs.declared.order.Order.{Order}
-use Rattle.parser.specs.declared.reading.TheConstants.{MOST_COMMANDS, MOST_TURNS}
-use Rattle.parser.specs.Words.{◌>>=◌, word_at, flaw, number_at, named_at, end_at}
-use Rattle.parser.specs.Orders.{first_byte, actor_at, order_at}
-use Rattle.parser.specs.Reading.{ReadSoFar, is_idle, first_word_in, first_word, heap_line, layout_line, is_full}
-use Rattle.parser.specs.Reading.{with_command, command_line, times_in, times_line, end_in, end_line, part_line}
-use Rattle.parser.specs.Reading.{later_line, line_after, line_in}
-use Rattle.parser.specs.Faults.{IsWordEnd}
 use Rattle.parser.proofs.Alike.{AreAlike, no_bytes}
 use Rattle.parser.proofs.HeapLines.{heap_tree, heap_run}
 use Rattle.parser.proofs.LayoutLines.{layout_tree, layout_run}
@@ -29,6 +18,7 @@ use Rattle.parser.proofs.WordPlaces.{IsWordAt, finds_word}
 use Rattle.parser.proofs.WordTrees.{bind_assoc, bind_ok_is, fail_run, or_missing, name_in}
 use Rattle.parser.proofs.WordTrees.{named_or_run, number_tree, number_run, end_tree}
 use Rattle.parser.proofs.WordTrees.{end_run, values, values_chain, whole_tree, whole_run}
+use Rattle.parser.proofs.Trees.{}
 
 -- ---- the tree of a line, from its first word on
 
@@ -185,11 +175,10 @@ module _ (line : List ℕ) (most : ℕ) (enough : length line < most) (w : List 
     unfolding command_line actor_at
     command_step_run r z = rw (first_byte_of line w (found_is line 0 w found)) (by_letter (first_byte w.0 == 119))
       where
-        by_letter : (b : Bool) → values (run (cond b
-            (name_in 119 z.workers kinds.NoSuchActor (λ n. order_step most r z (Worker n)) w.0)
-            (name_in 116 z.threads kinds.NoSuchActor (λ n. order_step most r z (Thread n)) w.0)) line 0)
-            ≡ (cond b (named_at line 0 119 z.workers kinds.NoSuchActor >>= (λ n. Ok (Worker n.0, n.1)))
-            (named_at line 0 116 z.threads kinds.NoSuchActor >>= (λ n. Ok (Thread n.0, n.1))) >>= after r z)
+        by_letter : (b : Bool) → values (run (cond b (name_in 119 z.workers kinds.NoSuchActor (λ n. order_step most r z
+            (Worker n)) w.0) (name_in 116 z.threads kinds.NoSuchActor (λ n. order_step most r z (Thread n)) w.0)) line
+            0) ≡ (cond b (named_at line 0 119 z.workers kinds.NoSuchActor >>= (λ n. Ok (Worker n.0, n.1))) (named_at
+            line 0 116 z.threads kinds.NoSuchActor >>= (λ n. Ok (Thread n.0, n.1))) >>= after r z)
         by_letter true = named_step r z 119 z.workers (λ n. Worker n)
         by_letter false = named_step r z 116 z.threads (λ n. Thread n)
 

@@ -1,14 +1,11 @@
 -- Lists of lines, and lists that are cut at each element that passes a test.
-use Rattle.std.proofs.Common.{◌≡◌, ◌≢◌, ℕ, zero, suc, Bool, true, false, cond, List, [], ◌∷◌, ◌++◌, refl, sym, ap}
-use Rattle.std.proofs.Common.{◌∙◌, arith, append_assoc, append-nil, ◌+◌, ◌<◌, ◌≤◌, length, take, drop, Some, None}
-use Rattle.std.proofs.Common.{position}
-use Rattle.std.specs.Prelude.{filter}
-use Rattle.std.specs.List.{All, AllByRecursion, join_with_byte, flat_map, slice_split, onto_first, position_or_len}
-use Rattle.std.proofs.lemmas.Bool.Decides.{nat_tests}
-use Rattle.parser.specs.Reading.{newline}
-use Rattle.parser.specs.Spelling.{with_newline, IsLine}
-use Rattle.std.proofs.lemmas.List.Splits.{slice_split_first, slice_split_none}
-use Rattle.std.proofs.lemmas.List.Quantifiers.{position-Some}
+use Rattle.parser.proofs.Names.{Bool, List, None, Some, [], ap, append-nil, append_assoc, arith, cond, drop, false}
+use Rattle.parser.proofs.Names.{length, position, refl, suc, sym, take, true, zero, ℕ, ◌++◌, ◌+◌, ◌<◌, ◌∙◌, ◌∷◌, ◌≡◌}
+use Rattle.parser.proofs.Names.{◌≢◌, ◌≤◌, nat_tests, position-Some, slice_split_none, All, AllByRecursion, flat_map}
+use Rattle.parser.proofs.Names.{join_with_byte, onto_first, position_or_len, slice_split, filter, newline}
+use Rattle.parser.proofs.Names.{with_newline}
+use Rattle.parser.specs.Spelling.{IsLine}
+use Rattle.std.proofs.lemmas.List.Splits.{slice_split_first}
 use Rattle.std.proofs.lemmas.List.Sums.{position_or_len_is, fails_before_first}
 use Rattle.model.proofs.Lists.{none_far}
 

@@ -1,17 +1,10 @@
 -- Numbers to the end of a line: what is read is spelled so, and what is spelled so is read.
-use Rattle.std.proofs.Common.{◌≡◌, ℕ, zero, suc, ◌+◌, ◌<◌, ◌≤◌, ◌^◌, cond, nat_lt, List, [], ◌∷◌, ◌++◌, length}
-use Rattle.std.proofs.Common.{refl, sym, ap, subst, ◌∙◌, arith, inl, inr, append_assoc, append-nil}
-use Rattle.std.specs.Prelude.{Result, Ok, Err, map, not, ◌||◌}
-use Rattle.std.specs.List.{AllByRecursion}
-use Rattle.std.specs.Fmt.{decimal}
-use Rattle.std.proofs.lemmas.Bool.{cases_lt, lt-ltb, le-ltb}
-use Rattle.std.proofs.lemmas.Option.{same_Some}
-use Rattle.model.proofs.Results.{same_result, not_refused}
-use Rattle.parser.specs.declared.fault.FaultKind.{FaultKind}
+use Rattle.parser.proofs.Names.{List, [], ap, append-nil, append_assoc, arith, cond, inl, inr, length, nat_lt, refl}
+use Rattle.parser.proofs.Names.{subst, suc, sym, zero, ℕ, ◌++◌, ◌+◌, ◌<◌, ◌^◌, ◌∙◌, ◌∷◌, ◌≡◌, ◌≤◌, cases_lt, le-ltb}
+use Rattle.parser.proofs.Names.{lt-ltb, same_Some, decimal, AllByRecursion, Err, Ok, Result, map, not, ◌||◌}
+use Rattle.parser.proofs.Names.{not_refused, same_result, numbers_at, numbers_by, flaw, in_range, ◌>>=◌, capped_from}
+use Rattle.parser.proofs.Names.{is_number, number_at, small_at, word_at, word_or, FaultKind, Flaw}
 use Rattle.parser.specs.declared.fault.FaultKind.TheVariants as kinds
-use Rattle.parser.specs.declared.fault.Flaw.{Flaw}
-use Rattle.parser.specs.Words.{◌>>=◌, flaw, word_at, word_or, is_number, capped_from, in_range, number_at, small_at}
-use Rattle.parser.specs.Orders.{numbers_by, numbers_at}
 use Rattle.parser.proofs.Places.{words_from, Reads, bind_ok, or_flaw_ok, past_end, end_past, small_again}
 use Rattle.parser.proofs.WordPlaces.{finds_word, none_past}
 
@@ -137,9 +130,8 @@ broken line at place ns f h within read =
     h ∙ ap (with_firsts ns) (numbers_first line place within
     ∙ ap (λ (r : Result (ℕ × ℕ) Flaw). r >>= (λ v. with_first v (numbers_at line v.1))) read)
 
-pub ended : (line : List ℕ) (at place : ℕ) (ns : List ℕ)
-    → numbers_at line at ≡ with_firsts ns (numbers_at line place) → length line < place
-    → numbers_at line at ≡ Ok (ns, place)
+pub ended : (line : List ℕ) (at place : ℕ) (ns : List ℕ) → numbers_at line at ≡ with_firsts ns (numbers_at line place)
+    → length line < place → numbers_at line at ≡ Ok (ns, place)
 ended line at place ns h past =
     h ∙ ap (with_firsts ns) (numbers_past line place past) ∙ ap (λ (xs : List ℕ). Ok (xs, place)) (append-nil ns)
 

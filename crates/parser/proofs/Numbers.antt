@@ -1,15 +1,16 @@
 -- Numbers in words are read as they are spelled.
-use Rattle.std.proofs.Common.{◌≡◌, ℕ, ◌+◌, ◌-◌, ◌*◌, ◌^◌, ◌<◌, Bool, true, false, List, []}
-use Rattle.std.proofs.Common.{nat_lt, ◌∷◌, length, get_or, refl, ap, ◌∙◌, arith, rules, inl, inr}
-use Rattle.std.specs.Prelude.{◌&&◌, ◌||◌, not, min, ◌==◌}
-use Rattle.std.specs.List.{list_all}
-use Rattle.std.specs.Fmt.{decimal}
-use Rattle.std.proofs.lemmas.Bool.Decides.{nat_tests}
+use Rattle.parser.proofs.Names.{Bool, List, [], ap, arith, false, get_or, inl, inr, length, nat_lt, refl, true, ℕ}
+use Rattle.parser.proofs.Names.{◌*◌, ◌+◌, ◌<◌, ◌^◌, ◌∙◌, ◌∷◌, ◌≡◌, and_parts, cases_lt, nat_tests, decimal_digit}
+use Rattle.parser.proofs.Names.{first_decimal, decimal, list_all, not, ◌&&◌, ◌==◌, ◌||◌, is_digit, capped_from}
+use Rattle.parser.proofs.Names.{is_number}
+use Rattle.std.proofs.Common.{◌-◌}
+use Rattle.std.proofs.Common.{rules}
+use Rattle.std.specs.Prelude.{min}
 use Rattle.std.proofs.lemmas.Fmt.{decimal-digits_value, digits_decimal, digits_value-decimal}
-use Rattle.std.proofs.lemmas.Fmt.{decimal_nonempty, decimal_digit, first_decimal}
-use Rattle.std.proofs.lemmas.Bool.{cases_lt, and_parts, or_cases, or_right}
+use Rattle.std.proofs.lemmas.Fmt.{decimal_nonempty}
+use Rattle.std.proofs.lemmas.Bool.{or_cases, or_right}
 use Rattle.std.proofs.lemmas.Str.Parse.{IsNumeralModel, IsDigitsTest, FoldsDigits, numerals_by_fold}
-use Rattle.parser.specs.Words.{is_digit, starts_with_zero, is_number, capped_from}
+use Rattle.parser.specs.Words.{starts_with_zero}
 
 -- the number that digits represent after earlier ones
 abbrev value_from : ℕ → List ℕ → ℕ

@@ -1,15 +1,10 @@
 -- All first faults of a text are in one line.
-use Rattle.std.proofs.Common.{◌≡◌, ℕ, ◌+◌, ◌<◌, List, [], ◌∷◌, ◌++◌, length, refl, sym, ap, subst, ◌∙◌, arith}
-use Rattle.std.proofs.Common.{inl, inr, append-nil, append_assoc}
-use Rattle.std.specs.List.{slice_split}
-use Rattle.std.proofs.lemmas.Bool.{cases_lt}
-use Rattle.std.proofs.lemmas.Grind.{flat_map-append}
-use Rattle.std.proofs.lemmas.List.Splits.{slice_split-cons_yes}
-use Rattle.parser.specs.declared.fault.LineFault.{LineFault}
-use Rattle.parser.specs.Reading.{newline}
-use Rattle.parser.specs.Spelling.{with_newline}
-use Rattle.parser.specs.Faults.{text_of, BeginsScript, HaveNoFault, IsLineEnd, IsWordEnd, byte_behind, StandsInLine}
-use Rattle.parser.specs.Faults.{StandsAtEnd, LacksNewline, IsFirstFault, HasNoLargeBlock, FaultsShareLine}
+use Rattle.parser.proofs.Names.{List, [], ap, append-nil, append_assoc, arith, inl, inr, length, refl, subst, sym, ℕ}
+use Rattle.parser.proofs.Names.{◌++◌, ◌+◌, ◌<◌, ◌∙◌, ◌∷◌, ◌≡◌, cases_lt, flat_map-append, slice_split-cons_yes}
+use Rattle.parser.proofs.Names.{slice_split, BeginsScript, HaveNoFault, IsFirstFault, IsLineEnd, IsWordEnd}
+use Rattle.parser.proofs.Names.{LacksNewline, StandsAtEnd, StandsInLine, byte_behind, text_of, newline, whole}
+use Rattle.parser.proofs.Names.{with_newline, LineFault}
+use Rattle.parser.specs.Faults.{HasNoLargeBlock, FaultsShareLine}
 use Rattle.parser.proofs.Lists.{HasNoNewlines, all_to, lines_to}
 use Rattle.parser.proofs.Completions.{begins_front}
 use Rattle.parser.proofs.Stops.{text_split, line_more}
@@ -70,8 +65,7 @@ word_in_line front word back (inr more) =
           ≡ (front ++ (word ++ byte_behind x ∷ [])) ++ (more.0 ++ 10 ∷ [])) (sym more.1) (left ∙ sym right),
     )
 
-in_line : (bytes : List ℕ) (fault : LineFault) → HasNoLargeBlock bytes → StandsInLine bytes fault
-    → HasPlace bytes fault
+in_line : (bytes : List ℕ) (fault : LineFault) → HasNoLargeBlock bytes → StandsInLine bytes fault → HasPlace bytes fault
 in_line bytes fault small h =
     let own = all_to _ h.line h.is_line in
     let cut = behind_cut h.line h.behind own h.ends in

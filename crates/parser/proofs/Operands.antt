@@ -1,18 +1,10 @@
 -- An order's operands: what is read is spelled so, and what is spelled so is read.
-use Rattle.std.proofs.Common.{◌≡◌, ℕ, ◌^◌, ◌<◌, ◌≤◌, Bool, true, false, List, [], ◌++◌, refl, sym, ap, ◌∙◌}
-use Rattle.std.proofs.Common.{arith}
-use Rattle.std.proofs.Common.{append_assoc}
-use Rattle.std.specs.Prelude.{Ok, map}
-use Rattle.std.specs.Fmt.{decimal}
+use Rattle.parser.proofs.Names.{Bool, List, [], ap, append_assoc, arith, false, refl, sym, true, ℕ, ◌++◌, ◌<◌, ◌^◌}
+use Rattle.parser.proofs.Names.{◌∙◌, ◌≡◌, ◌≤◌, decimal, Ok, map, config_of, more_at, operand_at, operands_at}
+use Rattle.parser.proofs.Names.{register_at, AreMore, IsOperand, IsOrder, operand_word, operand_words, row_of, Sizes}
+use Rattle.parser.proofs.Names.{Order, Kind, Address, Long, Nothing, Number, Percent, Register, ThreadName}
 use Rattle.parser.specs.declared.fault.FaultKind.TheVariants as kinds
-use Rattle.parser.specs.declared.heading.Sizes.{Sizes}
-use Rattle.parser.specs.declared.order.Order.{Order}
-use Rattle.parser.specs.declared.verbs.Kind.{Kind}
-use Rattle.parser.specs.declared.verbs.Kind.TheVariants.{Nothing, Register, Number, ThreadName, Long, Address, Percent}
-use Rattle.parser.specs.Verbs.{row_of}
-use Rattle.parser.specs.Orders.{register_at, operand_at, more_at, operands_at}
-use Rattle.parser.specs.Headings.{config_of}
-use Rattle.parser.specs.Spelling.{operand_word, operand_words, Bounds, bounds_of, IsOperand, AreMore, IsOrder}
+use Rattle.parser.specs.Spelling.{Bounds, bounds_of}
 use Rattle.parser.proofs.Places.{words_from, Reads}
 use Rattle.parser.proofs.Addresses.{address_again}
 use Rattle.parser.proofs.Lists.{all_to}

@@ -1,24 +1,13 @@
 -- Readers of operands, orders and lists of numbers as trees.
-use Rattle.std.proofs.Common.{◌≡◌, ℕ, zero, suc, ◌<◌, ◌^◌, Bool, true, false, List, [], ◌∷◌, ◌++◌, length}
-use Rattle.std.proofs.Common.{Option, Some, None, refl, sym, ap, subst, ◌∙◌, arith, inl, inr, lit<}
-use Rattle.std.specs.Prelude.{Result, Ok, map}
-use Rattle.std.specs.Fmt.{decimal}
-use Rattle.std.proofs.lemmas.Bool.{cases_lt}
-use Rattle.model.specs.declared.steps.Actor.{Actor}
-use Rattle.model.specs.declared.steps.Actor.TheVariants.{Thread, Worker}
+use Rattle.parser.proofs.Names.{Bool, List, None, Option, Some, [], ap, arith, false, inl, inr, length, lit<, refl}
+use Rattle.parser.proofs.Names.{subst, suc, sym, true, zero, ℕ, ◌++◌, ◌<◌, ◌^◌, ◌∙◌, ◌∷◌, ◌≡◌, cases_lt, decimal, Ok}
+use Rattle.parser.proofs.Names.{Result, map, Actor, Thread, Worker, does, more_at, order_of, verb_in, numbers_by}
+use Rattle.parser.proofs.Names.{operand_at, operands_at, order_at, register_at, AreMore, IsFor, IsOperand, IsOrder}
+use Rattle.parser.proofs.Names.{operand_word, operand_words, order_words, row_of, flaw, or_flaw, ◌>>=◌, small_at}
+use Rattle.parser.proofs.Names.{word_at, word_or, Flaw, Sizes, Order, Kind, Address, Long, Nothing, Number, Percent}
+use Rattle.parser.proofs.Names.{Register, ThreadName, Verb}
 use Rattle.parser.specs.declared.fault.FaultKind.TheVariants as kinds
-use Rattle.parser.specs.declared.fault.Flaw.{Flaw}
-use Rattle.parser.specs.declared.heading.Sizes.{Sizes}
-use Rattle.parser.specs.declared.order.Order.{Order}
-use Rattle.parser.specs.declared.verbs.Kind.{Kind}
-use Rattle.parser.specs.declared.verbs.Kind.TheVariants.{Nothing, Register, Number, ThreadName, Long, Address, Percent}
-use Rattle.parser.specs.declared.verbs.Verb.{Verb}
 use Rattle.parser.specs.declared.verbs.Verb.TheVariants as verbs
-use Rattle.parser.specs.Words.{◌>>=◌, word_at, flaw, or_flaw, word_or, small_at}
-use Rattle.parser.specs.Verbs.{row_of}
-use Rattle.parser.specs.Orders.{verb_in, does, register_at, operand_at, numbers_by, more_at, operands_at}
-use Rattle.parser.specs.Orders.{order_of, order_at}
-use Rattle.parser.specs.Spelling.{operand_word, operand_words, order_words, IsFor, IsOperand, AreMore, IsOrder}
 use Rattle.parser.proofs.Lists.{all_from}
 use Rattle.parser.proofs.Places.{past_end, word_again}
 use Rattle.parser.proofs.WordPlaces.{finds_word, none_past}
@@ -32,6 +21,7 @@ use Rattle.parser.proofs.WordTrees.{Any, IsLast, word_tree, word_run, fail_run, 
 use Rattle.parser.proofs.WordTrees.{past_sound, good_map, number_tree, number_run, number_good, IsNumberOf, named_tree}
 use Rattle.parser.proofs.WordTrees.{named_run, named_good, address_tree, address_run, address_good}
 use Rattle.parser.proofs.WordTrees.{bind_assoc, weaker, values, values_chain, whole_tree, whole_run, whole_good}
+use Rattle.parser.proofs.Trees.{Words, Rest}
 
 -- ---- an operand
 
@@ -56,7 +46,7 @@ operand_run sizes line Address at = address_run line at sizes.words
 operand_run sizes line Percent at = number_run line at 0 100
 
 -- an operand of a kind, and its words
-pub record IsOperandOf (sizes : Sizes) (kind : Kind) (n : ℕ) (ws : List (List ℕ)) : Type 0 where
+pub record IsOperandOf (sizes : Sizes) (kind : Kind) (n : ℕ) (ws : Words) : Type 0 where
   pub words_are : ws ≡ operand_word kind n
   pub fits : IsOperand (bounds_in sizes) kind n
 
@@ -113,7 +103,7 @@ numbers_run (suc n) line at = elim (cases_lt (length line) at) [
     rest = chain (number_tree 0 4294967295) (λ v. chain (numbers_tree n) (λ vs. Done (v ∷ vs)))
 
 -- numbers of 32 bits, and their words
-pub record AreNumbersIn (ns : List ℕ) (ws : List (List ℕ)) : Type 0 where
+pub record AreNumbersIn (ns : List ℕ) (ws : Words) : Type 0 where
   pub words_are : ws ≡ map decimal ns
   pub small : AreSmall ns
 
@@ -165,7 +155,7 @@ more_run : (most : ℕ) (line : List ℕ) → length line < most → (some : Boo
 more_run most line enough false at = refl
 more_run most line enough true at = numbers_run most line at ∙ sym (numbers_enough most line at (omega arith))
 
-pub record AreMoreOf (some : Bool) (ns : List ℕ) (ws : List (List ℕ)) : Type 0 where
+pub record AreMoreOf (some : Bool) (ns : List ℕ) (ws : Words) : Type 0 where
   pub words_are : ws ≡ map decimal ns
   pub fits : AreMore some ns
 
@@ -184,13 +174,12 @@ abbrev pub verb_tree : Actor → Tree Verb
 verb_tree actor = word_tree kinds.UnknownWord (λ w. verb_or (verb_in actor w))
 
 -- a verb of the actor, and its word
-pub record IsVerbOf (actor : Actor) (verb : Verb) (ws : List (List ℕ)) : Type 0 where
+pub record IsVerbOf (actor : Actor) (verb : Verb) (ws : Words) : Type 0 where
   pub words_are : ws ≡ (row_of verb).text ∷ []
   pub own : does actor verb ≡ true
 
-verb_run : (actor : Actor) (line : List ℕ) (at : ℕ) → run (verb_tree actor) line at
-    ≡ (word_or line at kinds.UnknownWord >>= (λ w. or_flaw (verb_in actor w.0) (flaw at kinds.UnknownWord)
-    >>= (λ verb. Ok (verb, w.1))))
+verb_run : (actor : Actor) (line : List ℕ) (at : ℕ) → run (verb_tree actor) line at ≡ (word_or line at kinds.UnknownWord
+    >>= (λ w. or_flaw (verb_in actor w.0) (flaw at kinds.UnknownWord) >>= (λ verb. Ok (verb, w.1))))
 verb_run actor line at = word_run line at kinds.UnknownWord _ _ (λ w e. by_verb w e (verb_in actor w.0))
   where
     by_verb : (w : List ℕ × ℕ) → word_at line at ≡ Some w → (o : Option Verb)
@@ -235,13 +224,13 @@ verb_good actor = record {
         (record { words_are = ap (λ (x : List ℕ). x ∷ []) own.1; own = own.0 })
 
 -- the operands of a verb, and their words
-pub record AreOperandsOf (sizes : Sizes) (verb : Verb) (o : Order) (ws : List (List ℕ)) : Type 0 where
+pub record AreOperandsOf (sizes : Sizes) (verb : Verb) (o : Order) (ws : Words) : Type 0 where
   pub verb_is : o.verb ≡ verb
   pub words_are : ws ≡ operand_words (row_of verb).kinds o
   pub fits : IsOrder (bounds_in sizes) o
 
 -- an order of the actor, and its words
-pub record IsOrderOf (sizes : Sizes) (actor : Actor) (o : Order) (ws : List (List ℕ)) : Type 0 where
+pub record IsOrderOf (sizes : Sizes) (actor : Actor) (o : Order) (ws : Words) : Type 0 where
   pub words_are : ws ≡ order_words o
   pub own : IsFor actor o
   pub fits : IsOrder (bounds_in sizes) o
@@ -291,9 +280,8 @@ module _ (sizes : Sizes) (most : ℕ) where
         fits = record { first = p.fits; second = q.fits; third = r.fits; wide = s.fits; more = m.fits };
       }) (more_good most k.more)))))
     where
-      next : (kind : Kind) (f : ℕ → Tree Order) (Q : Order → List (List ℕ) → Type 0)
-          → ((n : ℕ) (ws : List (List ℕ)) → IsOperandOf sizes kind n ws
-          → IsGood IsLast (λ (o : Order) vs. Q o (ws ++ vs)) (f n))
+      next : (kind : Kind) (f : ℕ → Tree Order) (Q : Order → Rest) → ((n : ℕ) (ws : Words)
+          → IsOperandOf sizes kind n ws → IsGood IsLast (λ (o : Order) vs. Q o (ws ++ vs)) (f n))
           → IsGood IsLast Q (chain (operand_tree sizes kind) f)
       next kind f Q h = good_chain Any IsLast f (IsOperandOf sizes kind) Q (operand_tree sizes kind)
           (operand_good sizes few kind) (record { good = h; follows = λ n ws p rest may. tt })

@@ -1,19 +1,10 @@
 -- What a line says that is accepted, other than a layout line, and that it is accepted.
-use Rattle.std.proofs.Common.{◌≡◌, ℕ, ◌+◌, ◌*◌, ◌≤◌, false, true, nat_lt, List, [], ◌∷◌, ◌++◌, length, Option, Some, None}
-use Rattle.std.proofs.Common.{refl, sym, ap, subst, ◌∙◌, inl, inr}
-use Rattle.std.specs.Prelude.{Bool, Ok, ◌==◌, ◌&&◌, ◌⊎◌, not, codes}
-use Rattle.std.specs.Str.{bytes_eq}
-use Rattle.std.specs.Fmt.{decimal}
-use Rattle.std.specs.List.{repeat}
-use Rattle.model.specs.declared.steps.Actor.{Actor}
-use Rattle.model.specs.declared.steps.Actor.TheVariants.{Thread, Worker}
-use Rattle.parser.specs.declared.heading.Sizes.{Sizes}
-use Rattle.parser.specs.declared.limits.TheConstants.{MOST_LAYOUTS}
-use Rattle.parser.specs.declared.order.Command.{Command}
-use Rattle.parser.specs.declared.reading.TheConstants.{MOST_COMMANDS, MOST_TURNS}
-use Rattle.parser.specs.Headings.{config_of}
-use Rattle.parser.specs.Reading.{ReadSoFar, nothing, is_idle, is_full, with_command, line_in}
-use Rattle.parser.specs.Spelling.{line_of, actor_word, order_words, command_line_of, times_line_of, IsCommand, SpellsHeap}
+use Rattle.parser.proofs.Names.{Bool, List, None, Option, Some, [], ap, false, inl, inr, length, nat_lt, refl, subst}
+use Rattle.parser.proofs.Names.{sym, true, ℕ, ◌*◌, ◌++◌, ◌+◌, ◌∙◌, ◌∷◌, ◌≡◌, ◌≤◌, ◌⊎◌, decimal, repeat, Ok, codes}
+use Rattle.parser.proofs.Names.{not, ◌&&◌, ◌==◌, bytes_eq, Actor, Thread, Worker, config_of, ReadSoFar, is_full}
+use Rattle.parser.proofs.Names.{is_idle, nothing, with_command, line_in, IsCommand, SpellsHeap, actor_word}
+use Rattle.parser.proofs.Names.{command_line_of, line_of, order_words, times_line_of, Sizes, MOST_LAYOUTS, Command}
+use Rattle.parser.proofs.Names.{MOST_COMMANDS, MOST_TURNS}
 use Rattle.parser.proofs.HeapLines.{IsSizes}
 use Rattle.parser.proofs.SaidSoFar.{Said}
 use Rattle.parser.proofs.TakenLines.{heap_taken, times_taken, end_taken, command_taken}

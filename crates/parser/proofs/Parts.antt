@@ -1,15 +1,10 @@
 -- Lines and commands of parts, and commands that are repeated.
-use Rattle.std.proofs.Common.{◌≡◌, ℕ, zero, suc, ◌+◌, ◌*◌, ◌≤◌, List, [], ◌∷◌, ◌++◌, length, Option, Some, None, refl}
-use Rattle.std.proofs.Common.{sym, ap, ◌∙◌, arith, append-nil, append_assoc, length-append, true}
-use Rattle.std.specs.Prelude.{codes, map, ◌==◌}
-use Rattle.std.specs.List.{AllByRecursion, flat_map, repeat}
-use Rattle.std.proofs.lemmas.List.{map-append}
-use Rattle.std.proofs.lemmas.Grind.{flat_map-append}
-use Rattle.parser.specs.declared.order.Command.{Command}
-use Rattle.parser.specs.declared.reading.TheConstants.{MOST_TURNS}
-use Rattle.parser.specs.Spelling.{command_line_of, Part, One, Times, times_line_of, part_lines, part_commands}
+use Rattle.parser.proofs.Names.{List, None, Option, Some, [], ap, append-nil, append_assoc, arith, length}
+use Rattle.parser.proofs.Names.{length-append, refl, suc, sym, true, zero, ℕ, ◌*◌, ◌++◌, ◌+◌, ◌∙◌, ◌∷◌, ◌≡◌, ◌≤◌}
+use Rattle.parser.proofs.Names.{nat_tests, flat_map-append, map-append, AllByRecursion, flat_map, repeat, codes, map}
+use Rattle.parser.proofs.Names.{◌==◌, One, Part, Times, command_line_of, part_commands, part_lines, times_line_of}
+use Rattle.parser.proofs.Names.{Command, MOST_TURNS}
 use Rattle.parser.proofs.Lists.{all_front, all_both}
-use Rattle.std.proofs.lemmas.Bool.Decides.{nat_tests}
 
 -- the lines of the open block so far
 abbrev pub open_lines : Option ℕ → List Command → List (List ℕ)

@@ -1,26 +1,15 @@
 -- A place represents the words from there to the end of the line: what is read there is spelled so, and the other way
 -- round.
-use Rattle.std.proofs.Common.{◌≡◌, ℕ, ◌+◌, ◌<◌, ◌≤◌, Bool, true, false, cond, nat_lt, List, [], ◌∷◌, length, drop}
-use Rattle.std.proofs.Common.{Option, Some, None, position, refl, sym, ap, subst, ◌∙◌, arith, inl, inr, ◌^◌}
-use Rattle.std.proofs.Common.{◌⊎◌}
-use Rattle.std.specs.Prelude.{Result, Ok, ◌==◌, Err, ◌||◌, nat_le}
-use Rattle.std.specs.List.{slice_split}
-use Rattle.std.proofs.lemmas.Bool.{ltb-false, le-ltb, lt-ltb, cases_lt}
-use Rattle.std.proofs.lemmas.Bool.Decides.{nat_tests, Decides-eqb}
+use Rattle.parser.proofs.Names.{Bool, List, None, Option, Some, [], ap, arith, cond, drop, false, inl, inr, length}
+use Rattle.parser.proofs.Names.{nat_lt, position, refl, subst, sym, true, ℕ, ◌+◌, ◌<◌, ◌^◌, ◌∙◌, ◌∷◌, ◌≡◌, ◌≤◌, ◌⊎◌}
+use Rattle.parser.proofs.Names.{cases_lt, le-ltb, lt-ltb, ltb-false, Decides-eqb, nat_tests, position-Some, same_Some}
+use Rattle.parser.proofs.Names.{bytes_eq-Decides, decimal, slice_split, Err, Ok, Result, nat_le, ◌==◌, ◌||◌, bytes_eq}
+use Rattle.parser.proofs.Names.{not_refused, same_result, cut_at, flaw, or_flaw, ◌>>=◌, end_at, fixed_at, named_at}
+use Rattle.parser.proofs.Names.{number_at, small_at, word_at, word_or, FaultKind, Flaw}
 use Rattle.std.proofs.lemmas.List.{drop-drop, length-drop}
-use Rattle.std.proofs.lemmas.List.Quantifiers.{position-Some}
-use Rattle.std.proofs.lemmas.Option.{same_Some}
-use Rattle.parser.specs.declared.fault.Flaw.{Flaw}
-use Rattle.parser.specs.Words.{cut_at, word_at, ◌>>=◌, flaw, or_flaw, word_or, fixed_at}
-use Rattle.parser.specs.Words.{number_at, small_at, named_at, end_at}
 use Rattle.parser.proofs.Lists.{split_some, split_none, split_cons}
-use Rattle.std.specs.Str.{bytes_eq}
-use Rattle.std.specs.Fmt.{decimal}
-use Rattle.std.proofs.lemmas.Slice.Eq.{bytes_eq-Decides}
-use Rattle.parser.specs.declared.fault.FaultKind.{FaultKind}
 use Rattle.parser.specs.declared.fault.FaultKind.TheVariants as kinds
 use Rattle.parser.proofs.Numbers.{number_read}
-use Rattle.model.proofs.Results.{same_result, not_refused}
 
 -- the byte between words
 abbrev pub space : ℕ → Bool

@@ -1,25 +1,11 @@
 -- Words of bytes above the space, and lines made of them.
-use Rattle.std.proofs.Common.{◌≡◌, ℕ, ◌^◌, ◌<◌, Bool, true, false, List, [], sym, subst}
-use Rattle.std.proofs.Common.{nat_lt, ◌≢◌, ◌∷◌, ◌++◌, refl, ap, ◌∙◌, arith, inl, inr, append_assoc}
-use Rattle.std.specs.Prelude.{codes, map}
-use Rattle.std.specs.Fmt.{decimal}
-use Rattle.std.specs.List.{All, AllByRecursion, list_all, slice_split, join_with_byte, flat_map}
-use Rattle.std.proofs.lemmas.Bool.Decides.{nat_tests}
-use Rattle.std.proofs.lemmas.List.Splits.{slice_split_none, slice_split_at}
-use Rattle.std.proofs.lemmas.Bool.{and_parts}
-use Rattle.model.proofs.Ranges.{page_size_range}
-use Rattle.model.specs.declared.steps.Actor.{Actor}
-use Rattle.model.specs.declared.steps.Actor.TheVariants.{Thread, Worker}
-use Rattle.parser.specs.declared.heading.Sizes.{Sizes}
-use Rattle.parser.specs.declared.order.Order.{Order}
-use Rattle.parser.specs.declared.verbs.Kind.{Kind}
-use Rattle.parser.specs.declared.verbs.Kind.TheVariants.{Nothing, Register, Number, ThreadName, Long, Address, Percent}
-use Rattle.parser.specs.Verbs.{row_of}
-use Rattle.parser.specs.Headings.{config_of}
-use Rattle.parser.specs.Reading.{newline}
-use Rattle.parser.specs.Spelling.{line_of, actor_word, operand_word, order_words, SpellsLimit}
-use Rattle.parser.specs.Spelling.{with_newline}
-use Rattle.parser.specs.Spelling.{IsActor, IsOperand, AreMore, IsOrder}
+use Rattle.parser.proofs.Names.{Bool, List, [], ap, append_assoc, arith, false, inl, inr, nat_lt, refl, subst, sym}
+use Rattle.parser.proofs.Names.{true, ℕ, ◌++◌, ◌<◌, ◌^◌, ◌∙◌, ◌∷◌, ◌≡◌, ◌≢◌, and_parts, nat_tests, slice_split_at}
+use Rattle.parser.proofs.Names.{slice_split_none, decimal, All, AllByRecursion, flat_map, join_with_byte, list_all}
+use Rattle.parser.proofs.Names.{slice_split, codes, map, page_size_range, Actor, Thread, Worker, config_of, newline}
+use Rattle.parser.proofs.Names.{AreMore, IsActor, IsOperand, IsOrder, SpellsLimit, actor_word, line_of, operand_word}
+use Rattle.parser.proofs.Names.{order_words, with_newline, row_of, Sizes, Order, Kind, Address, Long, Nothing, Number}
+use Rattle.parser.proofs.Names.{Percent, Register, ThreadName}
 use Rattle.parser.proofs.Lists.{HasNoNewlines, all_weaker, all_both, all_from, all_to}
 use Rattle.parser.proofs.ManyNumbers.{AreSmall}
 use Rattle.parser.proofs.Addresses.{address_plain}

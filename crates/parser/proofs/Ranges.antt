@@ -1,16 +1,9 @@
 -- The sizes of a heap line and the layouts make a configuration that is in range, and the other way round.
-use Rattle.std.proofs.Common.{◌≡◌, ℕ, ◌^◌, ◌≤◌, true, false, List, length, refl, arith}
-use Rattle.std.specs.Prelude.{◌||◌, not}
-use Rattle.std.specs.List.{list_all}
-use Rattle.std.proofs.lemmas.Bool.Decides.{nat_tests}
-use Rattle.std.proofs.lemmas.Bool.{or_parts, not-false}
-use Rattle.layout.specs.declared.shape.Layout.{Layout}
-use Rattle.model.specs.declared.config.Config.{Config}
-use Rattle.model.specs.Configs.{is_page_size, is_outside, fits_page, first_fault, IsConfig}
+use Rattle.parser.proofs.Names.{List, arith, false, length, refl, true, ℕ, ◌^◌, ◌≡◌, ◌≤◌, not-false, or_parts}
+use Rattle.parser.proofs.Names.{nat_tests, list_all, not, ◌||◌, Layout, fits_page, is_page_size, Config, config_of}
+use Rattle.parser.proofs.Names.{IsScriptConfig, Sizes}
+use Rattle.model.specs.Configs.{is_outside, first_fault, IsConfig}
 use Rattle.model.proofs.Ranges.{no_fault, within}
-use Rattle.parser.specs.declared.heading.Sizes.{Sizes}
-use Rattle.parser.specs.Headings.{config_of}
-use Rattle.parser.specs.Limits.{IsScriptConfig}
 use Rattle.parser.proofs.HeapLines.{IsWithin, IsSizes}
 
 -- the sizes in a configuration

@@ -1,30 +1,13 @@
 -- What was read so far is spelled by the lines that aren't empty or comments, within all limits.
-use Rattle.std.proofs.Common.{sym, Bool}
-use Rattle.std.proofs.Common.{◌≡◌, ℕ, ◌+◌, ◌<◌, ◌≤◌, true, false, nat_lt, List}
-use Rattle.std.proofs.Common.{[], ◌∷◌, ◌++◌, length, Option, Some, None, refl, ap, subst}
-use Rattle.std.proofs.Common.{◌∙◌, arith, inl, inr, append-nil, length-append}
-use Rattle.std.specs.Prelude.{Ok, ◌&&◌, not, codes, map}
-use Rattle.std.specs.Str.{bytes_eq}
-use Rattle.std.specs.List.{list_all, flat_map, repeat}
-use Rattle.std.proofs.lemmas.List.{map-append}
-use Rattle.std.proofs.lemmas.List.Folds.{list_all-append}
-use Rattle.std.proofs.lemmas.Slice.Eq.{bytes_eq-Decides}
-use Rattle.std.proofs.lemmas.Bool.{ltb-true, and_parts, not-true}
-use Rattle.std.proofs.lemmas.Bool.Decides.{nat_tests}
-use Rattle.layout.specs.declared.shape.Layout.{Layout}
-use Rattle.model.specs.Configs.{fits_page}
-use Rattle.model.proofs.Results.{same_result}
-use Rattle.parser.specs.declared.heading.Sizes.{Sizes}
-use Rattle.parser.specs.declared.order.Command.{Command}
-use Rattle.parser.specs.declared.limits.TheConstants.{MOST_LAYOUTS}
-use Rattle.parser.specs.declared.reading.TheConstants.{MOST_COMMANDS}
-use Rattle.parser.specs.Headings.{config_of, layout_in}
-use Rattle.parser.specs.Reading.{ReadSoFar, nothing, is_idle}
-use Rattle.parser.specs.Reading.{first_word, heap_line, layout_line, is_full, with_command}
-use Rattle.parser.specs.Reading.{later_line, line_after, line_in}
-use Rattle.parser.specs.Spelling.{command_line_of, layout_line_of}
-use Rattle.parser.specs.Spelling.{Part, One, Times, part_lines, IsPart}
-use Rattle.parser.specs.Spelling.{says_something, IsLayout, IsCommand}
+use Rattle.parser.proofs.Names.{Bool, List, None, Option, Some, [], ap, append-nil, arith, false, inl, inr, length}
+use Rattle.parser.proofs.Names.{length-append, nat_lt, refl, subst, sym, true, ℕ, ◌++◌, ◌+◌, ◌<◌, ◌∙◌, ◌∷◌, ◌≡◌, ◌≤◌}
+use Rattle.parser.proofs.Names.{and_parts, nat_tests, map-append, list_all-append, bytes_eq-Decides, flat_map}
+use Rattle.parser.proofs.Names.{list_all, repeat, Ok, codes, map, not, ◌&&◌, bytes_eq, Layout, same_result, fits_page}
+use Rattle.parser.proofs.Names.{config_of, layout_in, ReadSoFar, is_full, is_idle, line_after, nothing}
+use Rattle.parser.proofs.Names.{with_command, first_word, heap_line, later_line, layout_line, line_in, IsCommand}
+use Rattle.parser.proofs.Names.{IsLayout, IsPart, One, Part, Times, command_line_of, layout_line_of, part_lines}
+use Rattle.parser.proofs.Names.{says_something, Sizes, MOST_LAYOUTS, Command, MOST_COMMANDS}
+use Rattle.std.proofs.lemmas.Bool.{ltb-true, not-true}
 use Rattle.parser.proofs.OtherLines.{IsHeapLine, IsTimesLine, IsEndLine, IsOtherLine, is_layout_next}
 use Rattle.parser.proofs.LineFaults.{line_says}
 use Rattle.parser.proofs.SaidSoFar.{line_by_words, IsBehind, Said}
@@ -83,8 +66,7 @@ room_more words ls l h is room =
 
 module _ (said : List (List ℕ)) (r : ReadSoFar) (b : IsBehind said r) (line : List ℕ) where
   layout_step : (t : ReadSoFar) → (first_word line).0 ≡ codes "layout" → r.begun ≡ false
-      → length r.layouts < MOST_LAYOUTS
-      → layout_line r b.sizes line ≡ Ok t → IsBehind (said ++ line ∷ []) t
+      → length r.layouts < MOST_LAYOUTS → layout_line r b.sizes line ≡ Ok t → IsBehind (said ++ line ∷ []) t
   unfolding layout_line
   layout_step t first not_begun few h =
       let fresh = b.fresh not_begun in
@@ -114,9 +96,8 @@ module _ (said : List (List ℕ)) (r : ReadSoFar) (b : IsBehind said r) (line : 
         count = b.count;
       })
 
-  command_behind : (c : Command) → 1 ≤ length r.layouts → line ≡ command_line_of c
-      → IsCommand (config_of b.sizes []) c → (o : Option ℕ)
-      → r.turns ≡ o → is_full o r.commands ≡ false → IsBehind (said ++ line ∷ []) (with_command r o c)
+  command_behind : (c : Command) → 1 ≤ length r.layouts → line ≡ command_line_of c → IsCommand (config_of b.sizes []) c
+      → (o : Option ℕ) → r.turns ≡ o → is_full o r.commands ≡ false → IsBehind (said ++ line ∷ []) (with_command r o c)
   command_behind c some_layout is own None none room =
       let fits : length r.commands < MOST_COMMANDS = grind (arith, nat_tests) in
       record {

@@ -1,22 +1,9 @@
 -- What was read so far, and the lines that spell it.
-use Rattle.std.proofs.Common.{◌≡◌, ℕ, ◌≤◌, true, false, List}
-use Rattle.std.proofs.Common.{[], ◌∷◌, ◌++◌, length, Option, Some, None, refl, ap}
-use Rattle.std.proofs.Common.{◌∙◌, arith}
-use Rattle.std.specs.Prelude.{◌==◌, ◌⊎◌, map}
-use Rattle.std.specs.List.{AllByRecursion, list_all, flat_map}
-use Rattle.std.proofs.lemmas.Bool.Decides.{nat_tests}
-use Rattle.layout.specs.declared.shape.Layout.{Layout}
-use Rattle.model.specs.Configs.{fits_page}
-use Rattle.model.proofs.Ranges.{page_size_range}
-use Rattle.parser.specs.declared.heading.Sizes.{Sizes}
-use Rattle.parser.specs.declared.reading.TheConstants.{MOST_COMMANDS}
-use Rattle.parser.specs.Words.{word_at}
-use Rattle.parser.specs.Headings.{config_of}
-use Rattle.parser.specs.Reading.{ReadSoFar, nothing, first_word_in}
-use Rattle.parser.specs.Reading.{first_word}
-use Rattle.parser.specs.Spelling.{line_of, layout_line_of}
-use Rattle.parser.specs.Spelling.{Part, part_lines, part_commands, IsPart}
-use Rattle.parser.specs.Spelling.{SpellsHeap, IsLayout, IsCommand}
+use Rattle.parser.proofs.Names.{List, None, Option, Some, [], ap, arith, false, length, refl, true, ℕ, ◌++◌, ◌∙◌, ◌∷◌}
+use Rattle.parser.proofs.Names.{◌≡◌, ◌≤◌, ◌⊎◌, nat_tests, AllByRecursion, flat_map, list_all, map, ◌==◌, Layout}
+use Rattle.parser.proofs.Names.{page_size_range, fits_page, config_of, ReadSoFar, first_word_in, nothing, first_word}
+use Rattle.parser.proofs.Names.{IsCommand, IsLayout, IsPart, Part, SpellsHeap, layout_line_of, line_of, part_commands}
+use Rattle.parser.proofs.Names.{part_lines, word_at, Sizes, MOST_COMMANDS}
 use Rattle.parser.proofs.Lists.{split_cons}
 use Rattle.parser.proofs.Places.{words_from, word_is, no_word_is, words_whole}
 use Rattle.parser.proofs.Operands.{AreFew}

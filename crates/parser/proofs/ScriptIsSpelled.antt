@@ -1,22 +1,13 @@
 -- What is read to the end is a script within all limits that the bytes spell.
-use Rattle.std.proofs.Common.{◌≡◌, ℕ, ◌+◌, Bool, true, false, cond, List}
-use Rattle.std.proofs.Common.{[], ◌∷◌, ◌++◌, length, Option, Some, None, refl, sym, ap, subst}
-use Rattle.std.proofs.Common.{◌∙◌, arith, inl, inr, append-nil, append_assoc}
-use Rattle.std.specs.Prelude.{Result, Ok, Err, ◌==◌, map, filter}
-use Rattle.std.specs.List.{AllByRecursion, slice_split, join_with_byte, flat_map}
-use Rattle.std.proofs.lemmas.List.Splits.{join_with_byte-slice_split}
-use Rattle.std.proofs.lemmas.Bool.Decides.{nat_tests}
-use Rattle.layout.specs.declared.shape.Layout.{Layout}
+use Rattle.parser.proofs.Names.{Bool, List, None, Option, Some, [], ap, append-nil, append_assoc, arith, cond, false}
+use Rattle.parser.proofs.Names.{inl, inr, length, refl, subst, sym, true, ℕ, ◌++◌, ◌+◌, ◌∙◌, ◌∷◌, ◌≡◌, nat_tests}
+use Rattle.parser.proofs.Names.{join_with_byte-slice_split, AllByRecursion, flat_map, join_with_byte, slice_split}
+use Rattle.parser.proofs.Names.{Err, Ok, Result, filter, map, ◌==◌, Layout, config_of, ReadSoFar, ScriptValue, closed}
+use Rattle.parser.proofs.Names.{fault_at_start, goes_on, in_line, newline, nothing, script_of, whole, finished}
+use Rattle.parser.proofs.Names.{last_line, line_in, lines_in, script_in, IsCommand, IsLayout, IsPart, IsScript, Part}
+use Rattle.parser.proofs.Names.{Spells, SpellsHeap, layout_line_of, part_commands, part_lines, says_something, Flaw}
+use Rattle.parser.proofs.Names.{LineFault, Sizes, Command}
 use Rattle.parser.specs.declared.fault.FaultKind.TheVariants as kinds
-use Rattle.parser.specs.declared.fault.Flaw.{Flaw}
-use Rattle.parser.specs.declared.fault.LineFault.{LineFault}
-use Rattle.parser.specs.declared.heading.Sizes.{Sizes}
-use Rattle.parser.specs.declared.order.Command.{Command}
-use Rattle.parser.specs.Headings.{config_of}
-use Rattle.parser.specs.Reading.{ScriptValue, script_of, ReadSoFar, nothing, newline, line_in, in_line}
-use Rattle.parser.specs.Reading.{goes_on, fault_at_start, closed, whole, finished, last_line, lines_in, script_in}
-use Rattle.parser.specs.Spelling.{layout_line_of, Part, part_lines, part_commands, IsPart}
-use Rattle.parser.specs.Spelling.{SpellsHeap, says_something, Spells, IsLayout, IsCommand, IsScript}
 use Rattle.parser.proofs.Lists.{split_cons}
 use Rattle.parser.proofs.Ranges.{AreLayouts, config_in_range}
 use Rattle.parser.proofs.Parts.{open_lines}

@@ -1,34 +1,19 @@
 -- What the bytes spell within all limits is read.
-use Rattle.std.proofs.Common.{◌≡◌, ℕ, ◌+◌, ◌*◌, ◌≤◌, Bool, true, false, List}
-use Rattle.std.proofs.Common.{[], ◌∷◌, ◌++◌, length, Option, Some, None, refl, sym, ap, subst}
-use Rattle.std.proofs.Common.{◌∙◌, arith, append-nil, append_assoc, length-append}
-use Rattle.std.specs.Prelude.{Ok, ◌==◌, nat_le, codes, map, filter}
-use Rattle.std.specs.List.{AllByRecursion, list_all, slice_split, flat_map, repeat}
-use Rattle.std.proofs.lemmas.Bool.{and_parts}
-use Rattle.std.proofs.lemmas.Bool.Decides.{nat_tests}
-use Rattle.layout.specs.declared.shape.Layout.{Layout}
-use Rattle.model.specs.declared.config.Config.{Config}
-use Rattle.model.specs.declared.steps.Actor.{Actor}
-use Rattle.model.specs.declared.steps.Actor.TheVariants.{Thread, Worker}
-use Rattle.model.specs.Configs.{fits_page}
-use Rattle.parser.specs.declared.heading.Sizes.{Sizes}
-use Rattle.parser.specs.declared.order.Command.{Command}
-use Rattle.parser.specs.declared.limits.TheConstants.{MOST_LAYOUTS}
-use Rattle.parser.specs.declared.reading.TheConstants.{MOST_COMMANDS, MOST_TURNS}
-use Rattle.parser.specs.Headings.{config_of}
-use Rattle.parser.specs.Reading.{ScriptValue, script_of, ReadSoFar, nothing, newline, is_idle, with_command, line_in}
-use Rattle.parser.specs.Reading.{closed, whole, finished, last_line, lines_in, script_in}
-use Rattle.parser.specs.Spelling.{command_line_of, layout_line_of}
-use Rattle.parser.specs.Spelling.{SpellsHeap, Part, One, Times, times_line_of, part_lines, part_commands}
-use Rattle.parser.specs.Spelling.{IsPart, says_something, Spells, IsLayout, IsActor, IsCommand, IsScript}
+use Rattle.parser.proofs.Names.{Bool, List, None, Option, Some, [], ap, append-nil, append_assoc, arith, cond, false}
+use Rattle.parser.proofs.Names.{length, length-append, refl, subst, sym, true, ℕ, ◌*◌, ◌++◌, ◌+◌, ◌∙◌, ◌∷◌, ◌≡◌, ◌≤◌}
+use Rattle.parser.proofs.Names.{and_parts, nat_tests, AllByRecursion, flat_map, list_all, repeat, slice_split, Ok}
+use Rattle.parser.proofs.Names.{codes, filter, map, nat_le, not, ◌==◌, Layout, fits_page, Config, Actor, Thread}
+use Rattle.parser.proofs.Names.{Worker, config_of, ReadSoFar, ScriptValue, closed, is_idle, newline, nothing}
+use Rattle.parser.proofs.Names.{script_of, whole, with_command, finished, last_line, line_in, lines_in, script_in}
+use Rattle.parser.proofs.Names.{IsActor, IsCommand, IsLayout, IsPart, IsScript, One, Part, Spells, SpellsHeap, Times}
+use Rattle.parser.proofs.Names.{command_line_of, layout_line_of, order_words, part_commands, part_lines}
+use Rattle.parser.proofs.Names.{says_something, times_line_of, Sizes, MOST_LAYOUTS, Command, MOST_COMMANDS}
+use Rattle.parser.proofs.Names.{MOST_TURNS}
 use Rattle.parser.proofs.Lists.{all_back, IsCons}
 use Rattle.parser.proofs.HeapLines.{IsSizes}
 use Rattle.parser.proofs.Ranges.{sizes_in, config_tells}
 use Rattle.parser.proofs.Lines.{lines_cons}
 use Rattle.parser.proofs.OtherLines.{actor_idle}
-use Rattle.parser.specs.Spelling.{order_words}
-use Rattle.std.proofs.Common.{cond}
-use Rattle.std.specs.Prelude.{not}
 use Rattle.parser.proofs.Lists.{filter_told, all_to, all_front, lines_to}
 use Rattle.parser.proofs.Parts.{repeated_length, all_of_repeated}
 use Rattle.parser.proofs.Plain.{lines_split}
@@ -54,7 +39,7 @@ idle_taken : (r : ReadSoFar) (line : List ℕ) → is_idle line ≡ true → lin
 unfolding line_in
 idle_taken r line h = rw h refl
 
-end_read : (n : ℕ) (z : Sizes) (r : ReadSoFar) → IsReady z r → 1 ≤ length r.layouts → r.turns ≡ None →
+pub end_read : (n : ℕ) (z : Sizes) (r : ReadSoFar) → IsReady z r → 1 ≤ length r.layouts → r.turns ≡ None →
     lines_in n r ([] ∷ []) ≡ Ok (script_of (config_of z r.layouts) r.commands)
 unfolding lines_in last_line finished
 end_read n z r ready some none =
@@ -63,7 +48,7 @@ end_read n z r ready some none =
     ap (λ (o : Option Sizes). whole n r o) ready.sizes_is ∙ whole_is ∙ ap (λ (o : Option ℕ). closed n r z o) none
 
 -- lines after others
-leads_both : (xs ys : List (List ℕ)) (r t u : ReadSoFar) → Leads xs r t → Leads ys t u → Leads (xs ++ ys) r u
+pub leads_both : (xs ys : List (List ℕ)) (r t u : ReadSoFar) → Leads xs r t → Leads ys t u → Leads (xs ++ ys) r u
 leads_both [] ys r t u h k = subst (λ (x : ReadSoFar). Leads ys x u) (sym h) k
 leads_both (x ∷ xs) ys r t u h k = (h.0, (h.1.0, leads_both xs ys h.0 t u h.1.1 k))
 
@@ -80,7 +65,7 @@ leads_all (line ∷ lines) r t h = with_idle line (filter says_something lines) 
     (subst (λ (x : List (List ℕ)). Leads x r t) (filter_told says_something line lines) h) (λ u. leads_all lines u t)
 
 -- after lines that are accepted the end is read
-leads_read : (lines : List (List ℕ)) (n : ℕ) (r t : ReadSoFar) → Leads lines r t
+pub leads_read : (lines : List (List ℕ)) (n : ℕ) (r t : ReadSoFar) → Leads lines r t
     → (m : ℕ) × (lines_in n r (lines ++ [] ∷ []) ≡ lines_in m t ([] ∷ []))
 leads_read [] n r t h = (n, ap (λ (x : ReadSoFar). lines_in n x ([] ∷ [])) h)
 leads_read (line ∷ lines) n r t h =

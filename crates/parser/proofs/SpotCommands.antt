@@ -1,24 +1,15 @@
 -- The line of a command is searched for exactly if the command is.
-use Rattle.std.proofs.Common.{◌≡◌, ℕ, ◌^◌, ◌<◌, true, false, List, [], ◌∷◌, refl, ap, sym, ◌∙◌, arith}
-use Rattle.std.proofs.Common.{inl, inr, get_or, subst}
-use Rattle.std.specs.Prelude.{◌==◌, not, codes}
-use Rattle.std.specs.Fmt.{decimal}
-use Rattle.std.specs.Str.{bytes_eq}
-use Rattle.std.proofs.lemmas.Bool.{cases_lt, ne_eqb}
-use Rattle.std.proofs.lemmas.Fmt.{decimal_digit, first_decimal}
-use Rattle.model.specs.declared.steps.Actor.{Actor}
-use Rattle.model.specs.declared.steps.Actor.TheVariants.{Thread, Worker}
-use Rattle.parser.specs.declared.heading.Sizes.{Sizes}
-use Rattle.parser.specs.declared.order.Command.{Command}
-use Rattle.parser.specs.declared.spots.Sought.{Sought}
+use Rattle.parser.proofs.Names.{List, [], ap, arith, false, get_or, inl, inr, refl, subst, sym, true, ℕ, ◌<◌}
+use Rattle.parser.proofs.Names.{◌^◌, ◌∙◌, ◌∷◌, ◌≡◌, cases_lt, decimal_digit, first_decimal, decimal, codes, not, ◌==◌}
+use Rattle.parser.proofs.Names.{bytes_eq, Actor, Thread, Worker, config_of, does, first_byte, first_word_in}
+use Rattle.parser.proofs.Names.{first_word, IsActor, IsCommand, actor_word, command_line_of, operand_words}
+use Rattle.parser.proofs.Names.{order_words, is_sought, is_sought_command, second_word, row_of, Sizes, Command}
+use Rattle.parser.proofs.Names.{Sought, Verb}
+use Rattle.std.proofs.lemmas.Bool.{ne_eqb}
 use Rattle.parser.specs.declared.spots.Sought.TheVariants as sought
-use Rattle.parser.specs.declared.verbs.Verb.{Verb}
-use Rattle.parser.specs.Verbs.{row_of, is_for_worker}
-use Rattle.parser.specs.Headings.{config_of}
-use Rattle.parser.specs.Orders.{first_byte, then_of, then_with, is_cycles, is_raced, does}
-use Rattle.parser.specs.Reading.{first_word, first_word_in}
-use Rattle.parser.specs.Spelling.{actor_word, order_words, operand_words, command_line_of, IsActor, IsCommand}
-use Rattle.parser.specs.Spots.{second_word, is_cycle_word, is_sought, is_sought_command}
+use Rattle.parser.specs.Verbs.{is_for_worker}
+use Rattle.parser.specs.Orders.{then_of, then_with, is_cycles, is_raced}
+use Rattle.parser.specs.Spots.{is_cycle_word}
 use Rattle.parser.proofs.Places.{found_word}
 use Rattle.parser.proofs.Operands.{AreFew}
 use Rattle.parser.proofs.ActorsAndOrders.{first_is}
@@ -67,8 +58,7 @@ other_start sought.Cycle line h = rw h refl
 other_start sought.Other line h = rw h refl
 
 thread_line : (s : Sought) (t : ℕ) (c : Command) (line : List ℕ) → c.actor ≡ Thread t
-    → does (Thread t) c.order.verb ≡ true
-    → first_byte line ≡ 116 → is_sought s line ≡ is_sought_command s c
+    → does (Thread t) c.order.verb ≡ true → first_byte line ≡ 116 → is_sought s line ≡ is_sought_command s c
 thread_line sought.Cycle t c line a own first =
     other_start sought.Cycle line (rw first refl) ∙ sym (no_cycle c.order.verb own)
 thread_line sought.Other t c line a own first =

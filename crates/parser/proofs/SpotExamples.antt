@@ -1,14 +1,7 @@
 -- The places of the first commands that not every kind of run does, in small texts.
-use Rattle.std.proofs.Common.{◌≡◌, ℕ, [], ◌∷◌, Option, Some, None, refl}
-use Rattle.std.specs.Prelude.{codes}
-use Rattle.parser.specs.declared.fault.FaultKind.{FaultKind}
+use Rattle.parser.proofs.Names.{None, Option, Some, [], refl, take, ℕ, ◌∷◌, ◌≡◌, codes, text_of, first_word}
+use Rattle.parser.proofs.Names.{first_spot, second_word, spots_in, word_at, FaultKind, LineFault, Spots}
 use Rattle.parser.specs.declared.fault.FaultKind.TheVariants as kinds
-use Rattle.parser.specs.declared.fault.LineFault.{LineFault}
-use Rattle.parser.specs.declared.spots.Spots.{Spots}
-use Rattle.parser.specs.Words.{word_at}
-use Rattle.parser.specs.Reading.{first_word}
-use Rattle.parser.specs.Faults.{text_of}
-use Rattle.parser.specs.Spots.{second_word, first_spot, spots_in}
 
 abbrev at : ℕ → ℕ → FaultKind → Option LineFault
 at line column kind = Some (record { line = line; column = column; kind = kind })

@@ -1,21 +1,13 @@
 -- The place of the first line that is searched for, by a text, its lines and a command.
-use Rattle.std.proofs.Common.{◌≡◌, ℕ, ◌+◌, Bool, true, false, cond, List, [], ◌∷◌, ◌++◌, length, Some, refl, ap, sym}
-use Rattle.std.proofs.Common.{◌∙◌, arith, subst, append_assoc, inr}
-use Rattle.std.specs.Prelude.{map, filter, codes}
-use Rattle.std.specs.List.{AllByRecursion, slice_split, flat_map}
-use Rattle.std.proofs.lemmas.Grind.{flat_map-append}
-use Rattle.std.proofs.lemmas.Option.{same_Some}
-use Rattle.layout.specs.declared.shape.Layout.{Layout}
-use Rattle.model.specs.declared.config.Config.{Config}
-use Rattle.parser.specs.Limits.{IsScriptConfig}
-use Rattle.parser.specs.declared.fault.LineFault.{LineFault}
-use Rattle.parser.specs.declared.order.Command.{Command}
-use Rattle.parser.specs.declared.spots.Sought.{Sought}
-use Rattle.parser.specs.Reading.{ScriptValue, newline, first_word, first_word_in}
-use Rattle.parser.specs.Spelling.{Part, One, Times, IsPart, part_lines, part_commands, command_line_of, layout_line_of}
-use Rattle.parser.specs.Spelling.{line_of, actor_word, order_words, times_line_of, says_something}
-use Rattle.parser.specs.Spelling.{with_newline, Spells, IsCommand, IsScript}
-use Rattle.parser.specs.Spots.{is_sought, is_sought_command, fault_of, fault_at, first_spot, SpellsNone, IsFirstSpot}
+use Rattle.parser.proofs.Names.{Bool, List, Some, [], ap, append_assoc, arith, cond, false, inr, length, refl, subst}
+use Rattle.parser.proofs.Names.{sym, true, ℕ, ◌++◌, ◌+◌, ◌∙◌, ◌∷◌, ◌≡◌, flat_map-append, same_Some, AllByRecursion}
+use Rattle.parser.proofs.Names.{flat_map, slice_split, codes, filter, map, Layout, Config, IsScriptConfig}
+use Rattle.parser.proofs.Names.{ScriptValue, first_word_in, newline, first_word, IsCommand, IsPart, IsScript, One}
+use Rattle.parser.proofs.Names.{Part, Spells, Times, actor_word, command_line_of, layout_line_of, line_of}
+use Rattle.parser.proofs.Names.{order_words, part_commands, part_lines, says_something, times_line_of, with_newline}
+use Rattle.parser.proofs.Names.{IsFirstSpot, fault_at, fault_of, is_sought, is_sought_command, first_spot, LineFault}
+use Rattle.parser.proofs.Names.{Command, Sought}
+use Rattle.parser.specs.Spots.{SpellsNone}
 use Rattle.parser.proofs.FirstSpots.{first_from, spot_is, passed, met, no_line, one_line}
 use Rattle.parser.proofs.Lists.{all_back, HasNoNewlines, all_from, all_to, all_weaker, all_both, all_front, lines_from, lines_to}
 use Rattle.parser.proofs.Operands.{AreFew}
@@ -80,14 +72,12 @@ found s n (line ∷ lines) fault h = by_test (is_sought s line) refl (found s (n
     by_test false e later = found_next s n line lines fault e (later (sym (passed s n line lines e) ∙ h))
 
 -- the empty part after the last newline isn't searched for
-without_last : (s : Sought) (n : ℕ) (lines : List (List ℕ))
-    → first_from s n (lines ++ [] ∷ []) ≡ first_from s n lines
+without_last : (s : Sought) (n : ℕ) (lines : List (List ℕ)) → first_from s n (lines ++ [] ∷ []) ≡ first_from s n lines
 without_last s n [] =
     let none = empty_line s in one_line s n [] ∙ (rw none (sym (no_line s n)))
 without_last s n (line ∷ lines) = by_test (is_sought s line) refl (without_last s (n + 1) lines)
   where
-    by_test : (b : Bool) → is_sought s line ≡ b
-        → first_from s (n + 1) (lines ++ [] ∷ []) ≡ first_from s (n + 1) lines
+    by_test : (b : Bool) → is_sought s line ≡ b → first_from s (n + 1) (lines ++ [] ∷ []) ≡ first_from s (n + 1) lines
         → first_from s n (line ∷ (lines ++ [] ∷ [])) ≡ first_from s n (line ∷ lines)
     by_test true e later = met s n line (lines ++ [] ∷ []) e ∙ sym (met s n line lines e)
     by_test false e later = passed s n line (lines ++ [] ∷ []) e ∙ later ∙ sym (passed s n line lines e)

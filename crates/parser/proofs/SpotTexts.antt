@@ -1,24 +1,13 @@
 -- A text has a line that is searched for exactly if the script that it spells has such a command.
-use Rattle.std.proofs.Common.{◌≡◌, ℕ, zero, suc, ◌+◌, ◌≤◌, Bool, true, false, List, [], ◌∷◌, ◌++◌, refl, ap, sym, ◌∙◌}
-use Rattle.std.proofs.Common.{arith}
-use Rattle.std.proofs.Common.{subst}
-use Rattle.std.specs.Prelude.{◌==◌, ◌||◌, not, map, filter, codes}
-use Rattle.std.specs.Option.{is_some}
-use Rattle.std.specs.List.{AllByRecursion, list_any, slice_split, flat_map, repeat}
-use Rattle.std.proofs.lemmas.Bool.Decides.{nat_tests}
+use Rattle.parser.proofs.Names.{Bool, List, [], ap, arith, false, refl, subst, suc, sym, true, zero, ℕ, ◌++◌, ◌+◌}
+use Rattle.parser.proofs.Names.{◌∙◌, ◌∷◌, ◌≡◌, ◌≤◌, nat_tests, AllByRecursion, flat_map, repeat, slice_split, is_some}
+use Rattle.parser.proofs.Names.{codes, filter, map, not, ◌==◌, ◌||◌, Layout, Config, config_of, first_byte}
+use Rattle.parser.proofs.Names.{ScriptValue, newline, IsCommand, IsPart, IsScript, One, Part, Spells, SpellsHeap}
+use Rattle.parser.proofs.Names.{Times, command_line_of, layout_line_of, part_commands, part_lines, says_something}
+use Rattle.parser.proofs.Names.{times_line_of, is_sought, is_sought_command, first_spot, Sizes, Command, Sought}
+use Rattle.std.specs.List.{list_any}
 use Rattle.std.proofs.lemmas.List.Folds.{list_any-append}
 use Rattle.std.proofs.lemmas.Map.Views.{any-filter_same}
-use Rattle.layout.specs.declared.shape.Layout.{Layout}
-use Rattle.model.specs.declared.config.Config.{Config}
-use Rattle.parser.specs.declared.heading.Sizes.{Sizes}
-use Rattle.parser.specs.declared.order.Command.{Command}
-use Rattle.parser.specs.declared.spots.Sought.{Sought}
-use Rattle.parser.specs.Headings.{config_of}
-use Rattle.parser.specs.Orders.{first_byte}
-use Rattle.parser.specs.Reading.{ScriptValue, newline}
-use Rattle.parser.specs.Spelling.{Part, One, Times, IsPart, part_lines, part_commands, command_line_of, layout_line_of}
-use Rattle.parser.specs.Spelling.{times_line_of, says_something, SpellsHeap, Spells, IsCommand, IsScript}
-use Rattle.parser.specs.Spots.{is_sought, is_sought_command, first_spot}
 use Rattle.parser.proofs.FirstSpots.{first_from, spot_is, passed, met, no_line}
 use Rattle.parser.proofs.Lists.{all_back, all_to, all_front, lines_to}
 use Rattle.parser.proofs.Operands.{AreFew}
@@ -37,8 +26,7 @@ pub spot_there : (s : Sought) (n : ℕ) (lines : List (List ℕ))
 spot_there s n [] = ap is_some (no_line s n)
 spot_there s n (line ∷ lines) = by_test (is_sought s line) refl (spot_there s (n + 1) lines)
   where
-    by_test : (b : Bool) → is_sought s line ≡ b
-        → is_some (first_from s (n + 1) lines) ≡ list_any (is_sought s) lines
+    by_test : (b : Bool) → is_sought s line ≡ b → is_some (first_from s (n + 1) lines) ≡ list_any (is_sought s) lines
         → is_some (first_from s n (line ∷ lines)) ≡ (b || list_any (is_sought s) lines)
     by_test true h later = ap is_some (met s n line lines h)
     by_test false h later = ap is_some (passed s n line lines h) ∙ later
@@ -77,14 +65,12 @@ any_line s lines =
 
 -- ---- parts
 
-commands_any : (s : Sought) (z : Sizes) (cs : List Command) → AreFew z
-    → AllByRecursion (IsCommand (config_of z [])) cs
+commands_any : (s : Sought) (z : Sizes) (cs : List Command) → AreFew z → AllByRecursion (IsCommand (config_of z [])) cs
     → list_any (is_sought s) (map command_line_of cs) ≡ list_any (is_sought_command s) cs
 commands_any s z [] few h = refl
 commands_any s z (c ∷ cs) few h = rw (command_sought s z c few h.0, commands_any s z cs few h.1) refl
 
-repeated_any : (p : Command → Bool) (n : ℕ) (cs : List Command)
-    → list_any p (repeat (suc n) cs) ≡ list_any p cs
+repeated_any : (p : Command → Bool) (n : ℕ) (cs : List Command) → list_any p (repeat (suc n) cs) ≡ list_any p cs
 repeated_any p zero cs = list_any-append p cs [] ∙ or_none (list_any p cs)
 repeated_any p (suc n) cs =
     list_any-append p cs (repeat (suc n) cs) ∙ ap (λ b. list_any p cs || b) (repeated_any p n cs)
@@ -94,9 +80,8 @@ turns_any : (p : Command → Bool) (n : ℕ) (cs : List Command) → 1 ≤ n →
 turns_any p zero cs some = absurd (omega arith)
 turns_any p (suc n) cs some = repeated_any p n cs
 
-block_any : (s : Sought) (n : ℕ) (cs : List Command)
-    → list_any (is_sought s) (times_line_of n ∷ map command_line_of cs ++ codes "end" ∷ [])
-    ≡ list_any (is_sought s) (map command_line_of cs)
+block_any : (s : Sought) (n : ℕ) (cs : List Command) → list_any (is_sought s)
+    (times_line_of n ∷ map command_line_of cs ++ codes "end" ∷ []) ≡ list_any (is_sought s) (map command_line_of cs)
 block_any s n cs =
     let first : is_sought s (times_line_of n) ≡ false = other_start s (times_line_of n) refl in
     let last : is_sought s (codes "end") ≡ false = other_start s (codes "end") refl in
@@ -116,8 +101,7 @@ part_any s z (Times n cs) few is h =
 
 parts_any : (s : Sought) (z : Sizes) (parts : List Part) → AreFew z → AllByRecursion IsPart parts
     → AllByRecursion (IsCommand (config_of z [])) (flat_map part_commands parts)
-    → list_any (is_sought s) (flat_map part_lines parts)
-    ≡ list_any (is_sought_command s) (flat_map part_commands parts)
+    → list_any (is_sought s) (flat_map part_lines parts) ≡ list_any (is_sought_command s) (flat_map part_commands parts)
 parts_any s z [] few is h = refl
 parts_any s z (p ∷ parts) few is h =
     let own = all_front (IsCommand (config_of z [])) (part_commands p) (flat_map part_commands parts) h in

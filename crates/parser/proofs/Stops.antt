@@ -1,36 +1,19 @@
 -- Where reading stops, and that a text of accepted lines and a line with a fault isn't a script.
-use Rattle.std.proofs.Common.{◌≡◌, ◌≢◌, ℕ, ◌+◌, false, List, [], ◌∷◌, ◌++◌, length, refl, sym, ap, subst, ◌∙◌, arith}
-use Rattle.std.proofs.Common.{inl, inr, append-nil, append_assoc, ◌≤◌, length-append}
-use Rattle.std.specs.Prelude.{Result, Ok, Err, ◌==◌, ◌⊎◌, filter}
-use Rattle.std.proofs.lemmas.Bool.Decides.{nat_tests}
+use Rattle.parser.proofs.Names.{List, [], ap, append-nil, append_assoc, arith, false, inl, inr, length, length-append}
+use Rattle.parser.proofs.Names.{refl, subst, sym, ℕ, ◌++◌, ◌+◌, ◌∙◌, ◌∷◌, ◌≡◌, ◌≢◌, ◌≤◌, ◌⊎◌, nat_tests}
+use Rattle.parser.proofs.Names.{slice_split-cons_yes, slice_split_at, AllByRecursion, onto_first, slice_split, Err}
+use Rattle.parser.proofs.Names.{Ok, Result, ◌==◌, BeginsScript, IsWordEnd, byte_behind, text_of, ReadSoFar}
+use Rattle.parser.proofs.Names.{ScriptValue, goes_on, in_line, newline, nothing, finished, last_line, line_in}
+use Rattle.parser.proofs.Names.{lines_in, script_in, IsScript, Spells, Flaw, LineFault}
 use Rattle.parser.specs.declared.fault.FaultKind.TheVariants as kinds
-use Rattle.parser.specs.declared.fault.Flaw.{Flaw}
-use Rattle.parser.specs.declared.fault.LineFault.{LineFault}
-use Rattle.parser.specs.Reading.{ScriptValue, ReadSoFar, line_in, in_line, goes_on, finished, last_line, lines_in}
-use Rattle.parser.specs.Reading.{nothing, newline, script_in}
-use Rattle.parser.specs.Spelling.{says_something, Spells, IsScript}
-use Rattle.parser.proofs.Lists.{IsCons, told, filter_told, split_cons, HasNoNewlines, all_front, all_push}
+use Rattle.parser.proofs.Lists.{IsCons, split_cons, HasNoNewlines, all_front, all_push}
 use Rattle.parser.proofs.Lines.{lines_cons}
-use Rattle.parser.proofs.ReadIsSpelled.{line_ok}
-use Rattle.parser.proofs.SaidSoFar.{Said}
 use Rattle.parser.proofs.ScriptIsSpelled.{pick_false, never}
-use Rattle.std.specs.List.{AllByRecursion, slice_split, onto_first}
-use Rattle.std.proofs.lemmas.List.Splits.{slice_split_at, slice_split-cons_yes, slice_split-cons_no}
-use Rattle.parser.specs.Faults.{text_of, BeginsScript, IsWordEnd, byte_behind}
+use Rattle.std.proofs.lemmas.List.Splits.{slice_split-cons_no}
 use Rattle.parser.proofs.Plain.{none_ends}
 use Rattle.parser.proofs.Alike.{alike_spaced}
 use Rattle.parser.proofs.LineTrees.{line_same}
 use Rattle.parser.proofs.SpelledIsRead.{Leads, spelled_is_read}
-
-pub leads_said : (lines said : List (List ℕ)) (r t : ReadSoFar) → Said said r → Leads lines r t
-    → Said (said ++ filter says_something lines) t
-leads_said [] said r t so_far h =
-    subst (λ (x : ReadSoFar). Said (said ++ []) x) h (rw (append-nil said) so_far)
-leads_said (line ∷ lines) said r t so_far h =
-    let after = line_ok said r h.0 line so_far h.1.0 in
-    let rest = leads_said lines (said ++ told says_something line) h.0 t after h.1.1 in
-    subst (λ (x : List (List ℕ)). Said x t) (append_assoc said (told says_something line) (filter says_something lines)
-    ∙ ap (λ (x : List (List ℕ)). said ++ x) (sym (filter_told says_something line lines))) rest
 
 cons_behind : (lines more : List (List ℕ)) → IsCons more → IsCons (lines ++ more)
 cons_behind [] more h = h
@@ -252,9 +235,8 @@ never_behind_word before front back t flaw each own leads wrong early begins =
 
 -- up to the end of a word with a fault, and the byte after it, bytes begin no script
 pub never_begins : (before : List (List ℕ)) (line front word back : List ℕ) (t : ReadSoFar) (flaw : Flaw)
-    → AllByRecursion HasNoNewlines before → HasNoNewlines line → Leads before nothing t
-    → line_in t line ≡ Err flaw → line ≡ front ++ (word ++ back)
-    → IsWordEnd back → flaw.column ≡ length front + 1
+    → AllByRecursion HasNoNewlines before → HasNoNewlines line → Leads before nothing t → line_in t line ≡ Err flaw
+    → line ≡ front ++ (word ++ back) → IsWordEnd back → flaw.column ≡ length front + 1
     → BeginsScript (text_of before ++ (front ++ (word ++ byte_behind back ∷ []))) → ⊥
 never_begins before line front word back t flaw each own leads wrong is (inl none) column begins =
     let same : line ≡ front ++ word = is ∙ ap (λ (x : List ℕ). front ++ (word ++ x)) none

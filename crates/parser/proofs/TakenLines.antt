@@ -1,28 +1,13 @@
 -- A line that is spelled correctly, within all limits, is accepted.
-use Rattle.std.proofs.Common.{◌≡◌, ℕ, ◌+◌, ◌*◌, ◌^◌, ◌<◌, ◌≤◌, Bool, true, false, nat_lt, List, subst}
-use Rattle.std.proofs.Common.{[], ◌∷◌, ◌++◌, length, Option, Some, None, refl, sym, ap, ◌∙◌, arith}
-use Rattle.std.specs.Prelude.{Ok, ◌==◌, codes}
-use Rattle.std.specs.Str.{bytes_eq}
-use Rattle.std.specs.Fmt.{decimal}
-use Rattle.std.specs.List.{AllByRecursion, list_all, slice_split, repeat}
-use Rattle.std.proofs.lemmas.Slice.Eq.{bytes_eq-Decides}
-use Rattle.std.proofs.lemmas.Bool.{lt-ltb, le-ltb}
-use Rattle.std.proofs.lemmas.Bool.Decides.{nat_tests}
-use Rattle.layout.specs.declared.shape.Layout.{Layout}
-use Rattle.model.specs.declared.steps.Actor.{Actor}
-use Rattle.model.specs.declared.steps.Actor.TheVariants.{Thread, Worker}
-use Rattle.model.specs.Configs.{fits_page}
-use Rattle.parser.specs.declared.heading.Sizes.{Sizes}
-use Rattle.parser.specs.declared.order.Command.{Command}
-use Rattle.parser.specs.declared.limits.TheConstants.{MOST_LAYOUTS}
-use Rattle.parser.specs.declared.reading.TheConstants.{MOST_COMMANDS, MOST_TURNS}
-use Rattle.parser.specs.Words.{is_digit}
-use Rattle.parser.specs.Headings.{config_of}
-use Rattle.parser.specs.Reading.{ReadSoFar, nothing, is_idle, first_word}
-use Rattle.parser.specs.Reading.{heap_line, layout_line, is_full, with_command, command_line, times_in}
-use Rattle.parser.specs.Reading.{times_line, end_in, end_line, part_line, later_line, line_after, line_in}
-use Rattle.parser.specs.Spelling.{line_of, actor_word, order_words, command_line_of, layout_line_of, size_words}
-use Rattle.parser.specs.Spelling.{SpellsHeap, times_line_of, IsLayout, IsActor, IsCommand}
+use Rattle.parser.proofs.Names.{Bool, List, None, Option, Some, [], ap, arith, false, length, nat_lt, refl, subst}
+use Rattle.parser.proofs.Names.{sym, true, ℕ, ◌*◌, ◌++◌, ◌+◌, ◌<◌, ◌^◌, ◌∙◌, ◌∷◌, ◌≡◌, ◌≤◌, le-ltb, lt-ltb, nat_tests}
+use Rattle.parser.proofs.Names.{bytes_eq-Decides, decimal, AllByRecursion, list_all, repeat, slice_split, Ok, codes}
+use Rattle.parser.proofs.Names.{◌==◌, bytes_eq, Layout, fits_page, Actor, Thread, Worker, config_of, ReadSoFar}
+use Rattle.parser.proofs.Names.{end_in, is_full, is_idle, line_after, nothing, times_in, with_command, command_line}
+use Rattle.parser.proofs.Names.{end_line, first_word, heap_line, later_line, layout_line, line_in, part_line}
+use Rattle.parser.proofs.Names.{times_line, IsActor, IsCommand, IsLayout, SpellsHeap, actor_word, command_line_of}
+use Rattle.parser.proofs.Names.{layout_line_of, line_of, order_words, size_words, times_line_of, is_digit, Sizes}
+use Rattle.parser.proofs.Names.{MOST_LAYOUTS, Command, MOST_COMMANDS, MOST_TURNS}
 use Rattle.parser.proofs.Numbers.{decimal_digits}
 use Rattle.parser.proofs.Places.{words_from, words_whole, space, cons_is}
 use Rattle.parser.proofs.Places.{number_again, end_again}

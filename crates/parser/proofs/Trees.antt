@@ -1,20 +1,29 @@
 -- Readers as trees of words: what all of them have in common.
-use Rattle.std.proofs.Common.{◌≡◌, ◌≢◌, ℕ, ◌+◌, ◌<◌, ◌≤◌, Bool, true, false, List, [], ◌∷◌, ◌++◌, length, Option, Some}
-use Rattle.std.proofs.Common.{None, refl, sym, ap, subst, ◌∙◌, arith, inl, inr, append_assoc}
-use Rattle.std.specs.Prelude.{Result, Ok, Err, ◌⊎◌}
-use Rattle.std.specs.List.{AllByRecursion}
-use Rattle.std.proofs.lemmas.Bool.{cases_lt}
-use Rattle.std.proofs.lemmas.Option.{same_Some}
-use Rattle.model.proofs.Results.{same_result}
-use Rattle.parser.specs.declared.fault.FaultKind.{FaultKind}
-use Rattle.parser.specs.declared.fault.Flaw.{Flaw}
-use Rattle.parser.specs.Words.{◌>>=◌, word_at, flaw}
-use Rattle.parser.specs.Faults.{IsWrongWord}
+use Rattle.parser.proofs.Names.{Bool, List, None, Option, Some, [], ap, append_assoc, arith, false, inl, inr, length}
+use Rattle.parser.proofs.Names.{refl, subst, sym, true, ℕ, ◌++◌, ◌+◌, ◌<◌, ◌∙◌, ◌∷◌, ◌≡◌, ◌≢◌, ◌≤◌, ◌⊎◌, cases_lt}
+use Rattle.parser.proofs.Names.{same_Some, AllByRecursion, Err, Ok, Result, same_result, IsWrongWord, flaw, ◌>>=◌}
+use Rattle.parser.proofs.Names.{word_at, FaultKind, Flaw}
 use Rattle.parser.proofs.Lists.{all_front, all_back, all_both, HasNoNewlines}
 use Rattle.parser.proofs.Numbers.{IsPlain}
 use Rattle.parser.proofs.Places.{words_from, word_is, found_word, no_word_is, Reads}
 use Rattle.parser.proofs.WordPlaces.{HasNoSpace, IsBehindWord, IsPlace, IsWordAt, finds_word, none_past, behind_word}
 use Rattle.parser.proofs.Alike.{AreAlike, IsFaultAt, word_inside, fault_at_word, fault_at_end, no_bytes}
+
+-- words of a line
+abbrev pub Words : Type 0
+Words = List (List ℕ)
+
+-- what words say of a value
+abbrev pub Sense : Type 0 → Type 1
+Sense A = A → Words → Type 0
+
+-- which words may follow
+abbrev pub Rest : Type 1
+Rest = Words → Type 0
+
+-- the word that was looked at, if one was, and if there is one
+abbrev pub Seen : Type 0
+Seen = Option (Option (List ℕ))
 
 -- A reader of words. It is done, or has a fault at the word where it is, or looks at that word, if there is one, or
 -- goes past it.
@@ -135,31 +144,30 @@ Starts true front = front ≡ []
 Starts false front = front ≢ []
 
 -- the condition of a fault at the word that was looked at, which may be missing
-abbrev pub IsWrong : Bool → Option (Option (List ℕ)) → FaultKind → Type 0
+abbrev pub IsWrong : Bool → Seen → FaultKind → Type 0
 IsWrong first None kind = ⊥
 IsWrong first (Some None) kind = (front : List ℕ) → IsWrongWord kind front []
 IsWrong first (Some (Some w)) kind = (front : List ℕ) → Starts first front → IsWrongWord kind front w
 
 -- what holds of the word that was looked at, if there was one
-abbrev pub OfWord : Option (Option (List ℕ)) → (List ℕ → Type 0) → Type 0
+abbrev pub OfWord : Seen → (List ℕ → Type 0) → Type 0
 OfWord None F = ⊥
 OfWord (Some None) F = ⊥
 OfWord (Some (Some w)) F = F w
 
 -- some words are read, if those after them are allowed there
-pub record Lives {A : Type 0} (May : List (List ℕ) → Type 0) (P : A → List (List ℕ) → Type 0) (t : Tree A) : Type 0
+pub record Lives {A : Type 0} (May : Rest) (P : Sense A) (t : Tree A) : Type 0
   where
-    pub words : List (List ℕ)
+    pub words : Words
     pub plain : AllByRecursion IsPlain words
     pub value : A
     pub is : P value words
-    pub reads : (line : List ℕ) (at : ℕ) (rest : List (List ℕ)) → May rest → words_from line at ≡ words ++ rest
+    pub reads : (line : List ℕ) (at : ℕ) (rest : Words) → May rest → words_from line at ≡ words ++ rest
         → Reads line (run t line at) value rest
 
 -- A value is one of the words that were passed; each fault is one at the word that was looked at; and past each word
 -- some words are read.
-abbrev pub IsSound : {A : Type 0} → (List (List ℕ) → Type 0) → (A → List (List ℕ) → Type 0) → Bool
-    → Option (Option (List ℕ)) → Tree A → Type 0
+abbrev pub IsSound : {A : Type 0} → (Rest) → (Sense A) → Bool → Seen → Tree A → Type 0
 IsSound May P first c (Done x) = P x []
 IsSound May P first c (Fail kind) = IsWrong first c kind
 IsSound May P first c (Look f) = (o : Option (List ℕ)) → IsSound May P first (Some o) (f o)
@@ -167,27 +175,26 @@ IsSound {A} May P first c (Skip t) = OfWord c (λ w.
     Lives May (λ (x : A) ws. P x (w ∷ ws)) t × IsSound May (λ (x : A) ws. P x (w ∷ ws)) false None t)
 
 -- the same for a tree wherever it is, other than at the line's first word
-pub record IsGood {A : Type 0} (May : List (List ℕ) → Type 0) (P : A → List (List ℕ) → Type 0) (t : Tree A) : Type 0
+pub record IsGood {A : Type 0} (May : Rest) (P : Sense A) (t : Tree A) : Type 0
   where
     pub lives : Lives May P t
-    pub sound : (c : Option (Option (List ℕ))) → IsSound May P false c t
+    pub sound : (c : Seen) → IsSound May P false c t
 
 module _
-    {A B : Type 0} (MayFirst May : List (List ℕ) → Type 0) (f : A → Tree B)
+    {A B : Type 0} (MayFirst May : Rest) (f : A → Tree B)
   where
     -- what follows is good, and begins as it may
-    pub record Follows (P : A → List (List ℕ) → Type 0) (Q : B → List (List ℕ) → Type 0) : Type 0 where
-      pub good : (x : A) (ws : List (List ℕ)) → P x ws → IsGood May (λ (y : B) vs. Q y (ws ++ vs)) (f x)
-      pub follows : (x : A) (ws : List (List ℕ)) (p : P x ws) (rest : List (List ℕ)) → May rest
+    pub record Follows (P : Sense A) (Q : Sense B) : Type 0 where
+      pub good : (x : A) (ws : Words) → P x ws → IsGood May (λ (y : B) vs. Q y (ws ++ vs)) (f x)
+      pub follows : (x : A) (ws : Words) (p : P x ws) (rest : Words) → May rest
           → MayFirst ((good x ws p).lives.words ++ rest)
 
-    past : (P : A → List (List ℕ) → Type 0) (Q : B → List (List ℕ) → Type 0) (w : List ℕ) → Follows P Q
+    past : (P : Sense A) (Q : Sense B) (w : List ℕ) → Follows P Q
         → Follows (λ (x : A) ws. P x (w ∷ ws)) (λ (y : B) ws. Q y (w ∷ ws))
     past P Q w h =
         record { good = λ x ws p. h.good x (w ∷ ws) p; follows = λ x ws p. h.follows x (w ∷ ws) p }
 
-    lives_chain : (P : A → List (List ℕ) → Type 0) (Q : B → List (List ℕ) → Type 0) (t : Tree A) → Follows P Q
-        → Lives MayFirst P t → Lives May Q (chain t f)
+    lives_chain : (P : Sense A) (Q : Sense B) (t : Tree A) → Follows P Q → Lives MayFirst P t → Lives May Q (chain t f)
     lives_chain P Q t k h =
         let next = (k.good h.value h.words h.is).lives in
         record {
@@ -206,8 +213,8 @@ module _
               );
         }
 
-    sound_chain : (t : Tree A) (P : A → List (List ℕ) → Type 0) (Q : B → List (List ℕ) → Type 0)
-        (c : Option (Option (List ℕ))) → Follows P Q → IsSound MayFirst P false c t → IsSound May Q false c (chain t f)
+    sound_chain : (t : Tree A) (P : Sense A) (Q : Sense B)
+        (c : Seen) → Follows P Q → IsSound MayFirst P false c t → IsSound May Q false c (chain t f)
     sound_chain (Done x) P Q c k h = (k.good x [] h).sound c
     sound_chain (Fail kind) P Q c k h = h
     sound_chain (Look u) P Q c k h = λ o. sound_chain (u o) P Q (Some o) k (h o)
@@ -219,13 +226,13 @@ module _
           sound_chain t (λ (x : A) ws. P x (w ∷ ws)) (λ (y : B) ws. Q y (w ∷ ws)) None next h.1,
         )
 
-    pub good_chain : (P : A → List (List ℕ) → Type 0) (Q : B → List (List ℕ) → Type 0) (t : Tree A) → IsGood MayFirst P t
+    pub good_chain : (P : Sense A) (Q : Sense B) (t : Tree A) → IsGood MayFirst P t
         → Follows P Q → IsGood May Q (chain t f)
     good_chain P Q t h k =
         record { lives = lives_chain P Q t k h.lives; sound = λ c. sound_chain t P Q c k (h.sound c) }
 
 -- the word that was looked at is the one at a place
-abbrev pub Matches : Option (Option (List ℕ)) → Option (List ℕ × ℕ) → Type 0
+abbrev pub Matches : Seen → Option (List ℕ × ℕ) → Type 0
 Matches None o = Unit {0}
 Matches (Some v) o = v ≡ word_in o
 
@@ -252,7 +259,7 @@ is_place : (first : Bool) (line : List ℕ) (at : ℕ) → IsAt first line at �
 is_place true line at h = inl h
 is_place false line at h = inr h
 
-fault_seen : (line : List ℕ) (at : ℕ) (kind : FaultKind) (first : Bool) (c : Option (Option (List ℕ)))
+fault_seen : (line : List ℕ) (at : ℕ) (kind : FaultKind) (first : Bool) (c : Seen)
     (o : Option (List ℕ × ℕ)) → word_at line at ≡ o → IsWrong first c kind → Matches c o → IsAt first line at
     → IsFaultAt line (flaw (place_in line at o) kind)
 fault_seen line at kind first None o e wrong same spot = absurd wrong
@@ -265,7 +272,7 @@ fault_seen line at kind first (Some (Some v)) (Some w) e wrong same spot =
     size)))
 
 -- the words from a fault on: those from its place on, or none if a word is missing
-abbrev pub IsTail : List ℕ → Flaw → List (List ℕ) → Type 0
+abbrev pub IsTail : List ℕ → Flaw → Rest
 IsTail line f tail = ((place : ℕ) × ((tail ≡ words_from line place) × ((place ≤ length line) × (f.column ≡ place + 1))))
     ⊎ ((tail ≡ []) × (f.column ≡ length line + 1))
 
@@ -275,7 +282,7 @@ pub record IsClean (word : List ℕ) : Type 0 where
   pub plain : HasNoSpace word
 
 -- the word that was looked at, in the line
-seen : (F : List ℕ → Type 0) (c : Option (Option (List ℕ))) (o : Option (List ℕ × ℕ)) → OfWord c F → Matches c o
+seen : (F : List ℕ → Type 0) (c : Seen) (o : Option (List ℕ × ℕ)) → OfWord c F → Matches c o
     → (w : List ℕ × ℕ) × (o ≡ Some w) × F w.0
 seen F None o h same = absurd h
 seen F (Some None) o h same = absurd h
@@ -283,17 +290,16 @@ seen F (Some (Some v)) None h same = absurd cc
 seen F (Some (Some v)) (Some w) h same = (w, refl, subst F (same_Some v w.0 same) h)
 
 -- what is read is a value of the words that were passed
-pub record IsReadBy {A : Type 0} (P : A → List (List ℕ) → Type 0) (line : List ℕ) (at after : ℕ) (x : A) : Type 0 where
-  pub words : List (List ℕ)
+pub record IsReadBy {A : Type 0} (P : Sense A) (line : List ℕ) (at after : ℕ) (x : A) : Type 0 where
+  pub words : Words
   pub is : P x words
   pub spelled : words_from line at ≡ words ++ words_from line after
 
 not_ok : {A : Type 0} (f : Flaw) (x : A × ℕ) → ◌≡◌ {A = Result (A × ℕ) Flaw} (Err f) (Ok x) → ⊥
 not_ok f x h = absurd cc
 
-pub run_ok : {A : Type 0} (May : List (List ℕ) → Type 0) (P : A → List (List ℕ) → Type 0) (line : List ℕ) (v : A × ℕ)
-    (t : Tree A) (first : Bool) (c : Option (Option (List ℕ))) (at : ℕ) → IsSound May P first c t
-    → Matches c (word_at line at) → run t line at ≡ Ok v → IsReadBy P line at v.1 v.0
+pub run_ok : {A : Type 0} (May : Rest) (P : Sense A) (line : List ℕ) (v : A × ℕ) (t : Tree A) (first : Bool) (c : Seen)
+    (at : ℕ) → IsSound May P first c t → Matches c (word_at line at) → run t line at ≡ Ok v → IsReadBy P line at v.1 v.0
 run_ok {A} May P line v (Done x) first c at sound same h =
     subst (λ (u : A × ℕ). IsReadBy P line at u.1 u.0) (same_result (x, at) v h)
     (record { words = []; is = sound; spelled = refl })
@@ -308,7 +314,7 @@ run_ok {A} May P line v (Skip t) first c at sound same h =
     record {
       words = w.0.0 ∷ b.words;
       is = b.is;
-      spelled = word_is line at w.0 w.1 ∙ ap (λ (x : List (List ℕ)). w.0.0 ∷ x) b.spelled;
+      spelled = word_is line at w.0 w.1 ∙ ap (λ (x : Words). w.0.0 ∷ x) b.spelled;
     }
 
 -- a fault is at the word at a place
@@ -325,7 +331,7 @@ here line f kind at None e is = inr (no_word_is line at e, ap (λ (x : Flaw). x.
 here line f kind at (Some w) e is =
     inl (word_inside line at w (found_is line at w e), ap (λ (x : Flaw). x.column) (sym is))
 
-module _ {A : Type 0} (May : List (List ℕ) → Type 0) (line : List ℕ) (f : Flaw) where
+module _ {A : Type 0} (May : Rest) (line : List ℕ) (f : Flaw) where
   no_fault : (x : A × ℕ) → ◌≡◌ {A = Result (A × ℕ) Flaw} (Ok x) (Err f) → ⊥
   no_fault x h = absurd cc
 
@@ -333,9 +339,8 @@ module _ {A : Type 0} (May : List (List ℕ) → Type 0) (line : List ℕ) (f : 
   same_fault g h = cc
 
   -- a fault is at a word, with that kind's condition
-  pub run_wrong : (P : A → List (List ℕ) → Type 0) (t : Tree A) (first : Bool) (c : Option (Option (List ℕ))) (at : ℕ)
-      → IsSound May P first c t → Matches c (word_at line at) → IsAt first line at → run t line at ≡ Err f
-      → IsFaultAt line f
+  pub run_wrong : (P : Sense A) (t : Tree A) (first : Bool) (c : Seen) (at : ℕ) → IsSound May P first c t
+      → Matches c (word_at line at) → IsAt first line at → run t line at ≡ Err f → IsFaultAt line f
   run_wrong P (Done x) first c at sound same spot h = absurd (no_fault (x, at) h)
   run_wrong P (Fail kind) first c at sound same spot h =
       subst (IsFaultAt line) (same_fault (flaw (place_in line at (word_at line at)) kind) h)
@@ -350,15 +355,15 @@ module _ {A : Type 0} (May : List (List ℕ) → Type 0) (line : List ℕ) (f : 
   -- the words before a fault, of which there are some, and words that are read in place of those from there on
   pub record Mends (t : Tree A) (at : ℕ) : Type 0 where
     pub word : List ℕ
-    pub firsts : List (List ℕ)
-    pub tail : List (List ℕ)
-    pub lasts : List (List ℕ)
+    pub firsts : Words
+    pub tail : Words
+    pub lasts : Words
     pub clean : AllByRecursion IsClean (word ∷ firsts)
     pub plain : AllByRecursion IsPlain lasts
     pub words : words_from line at ≡ word ∷ (firsts ++ tail)
     pub place : IsTail line f tail
     pub value : A
-    pub reads : (other : List ℕ) (at : ℕ) (rest : List (List ℕ)) → May rest
+    pub reads : (other : List ℕ) (at : ℕ) (rest : Words) → May rest
         → words_from other at ≡ word ∷ (firsts ++ (lasts ++ rest)) → Reads other (run t other at) value rest
 
   look_mends : (u : Option (List ℕ) → Tree A) (at : ℕ) → Mends (u (word_in (word_at line at))) at → Mends (Look u) at
@@ -388,14 +393,14 @@ module _ {A : Type 0} (May : List (List ℕ) → Type 0) (line : List ℕ) (f : 
         record { line = all_front (λ b. b ≢ 10) w.0 is.back back; plain = is.plain }
 
     -- a tree that is read from the place after a word
-    behind : (value : A) (ws rest : List (List ℕ)) (other : List ℕ) (place : ℕ)
+    behind : (value : A) (ws rest : Words) (other : List ℕ) (place : ℕ)
         → ((after : ℕ) → words_from other after ≡ ws → Reads other (run t other after) value rest)
         → words_from other place ≡ w.0 ∷ ws → Reads other (run (Skip t) other place) value rest
     behind value ws rest other place h e =
         let there = found_word other place w.0 ws e in
         rw there.1 (h there.0 there.2)
 
-    skip_here : (P : A → List (List ℕ) → Type 0) → Lives May P t → IsHere line f w.1 → Mends (Skip t) at
+    skip_here : (P : Sense A) → Lives May P t → IsHere line f w.1 → Mends (Skip t) at
     skip_here P lives h = record {
       word = w.0;
       firsts = [];
@@ -418,16 +423,15 @@ module _ {A : Type 0} (May : List (List ℕ) → Type 0) (line : List ℕ) (f : 
       lasts = m.lasts;
       clean = (clean_word, m.clean);
       plain = m.plain;
-      words = word_is line at w found ∙ ap (λ (x : List (List ℕ)). w.0 ∷ x) m.words;
+      words = word_is line at w found ∙ ap (λ (x : Words). w.0 ∷ x) m.words;
       place = m.place;
       value = m.value;
       reads = λ other place rest may e. behind m.value (m.word ∷ (m.firsts ++ (m.lasts ++ rest))) rest other place
           (λ after. m.reads other after rest may) e;
     }
 
-  pub run_mends : HasNoNewlines line → (P : A → List (List ℕ) → Type 0) (t : Tree A) (first : Bool)
-      (c : Option (Option (List ℕ))) (at : ℕ) → IsSound May P first c t → Matches c (word_at line at)
-      → run t line at ≡ Err f → IsHere line f at ⊎ Mends t at
+  pub run_mends : HasNoNewlines line → (P : Sense A) (t : Tree A) (first : Bool) (c : Seen) (at : ℕ)
+      → IsSound May P first c t → Matches c (word_at line at) → run t line at ≡ Err f → IsHere line f at ⊎ Mends t at
   run_mends own P (Done x) first c at sound same h = absurd (no_fault (x, at) h)
   run_mends own P (Fail kind) first c at sound same h =
       inl (here line f kind at (word_at line at) refl (same_fault (flaw (place_in line at (word_at line at)) kind) h))
@@ -448,33 +452,33 @@ module _ {A : Type 0} (May : List (List ℕ) → Type 0) (line : List ℕ) (f : 
 -- ---- to the end of the line
 
 -- no word is left
-abbrev pub IsEnd : Option (Option (List ℕ)) → Type 0
+abbrev pub IsEnd : Seen → Type 0
 IsEnd None = ⊥
 IsEnd (Some None) = Unit {0}
 IsEnd (Some (Some w)) = ⊥
 
 -- a tree is done only where it saw that no word is left
-abbrev pub EndsAt : {A : Type 0} → Option (Option (List ℕ)) → Tree A → Type 0
+abbrev pub EndsAt : {A : Type 0} → Seen → Tree A → Type 0
 EndsAt c (Done x) = IsEnd c
 EndsAt c (Fail kind) = Unit {0}
 EndsAt c (Look f) = (o : Option (List ℕ)) → EndsAt (Some o) (f o)
 EndsAt c (Skip t) = EndsAt None t
 
-pub ends_chain : {A B : Type 0} (t : Tree A) (f : A → Tree B) (c : Option (Option (List ℕ)))
-    → ((x : A) (c : Option (Option (List ℕ))) → EndsAt c (f x)) → EndsAt c (chain t f)
+pub ends_chain : {A B : Type 0} (t : Tree A) (f : A → Tree B) (c : Seen)
+    → ((x : A) (c : Seen) → EndsAt c (f x)) → EndsAt c (chain t f)
 ends_chain (Done x) f c h = h x c
 ends_chain (Fail kind) f c h = tt
 ends_chain (Look u) f c h = λ o. ends_chain (u o) f (Some o) h
 ends_chain (Skip t) f c h = ends_chain t f None h
 
-pub ends_map : {A B : Type 0} (t : Tree A) (make : A → B) (c : Option (Option (List ℕ))) → EndsAt c t
+pub ends_map : {A B : Type 0} (t : Tree A) (make : A → B) (c : Seen) → EndsAt c t
     → EndsAt c (chain t (λ x. Done (make x)))
 ends_map (Done x) make c h = h
 ends_map (Fail kind) make c h = tt
 ends_map (Look u) make c h = λ o. ends_map (u o) make (Some o) (h o)
 ends_map (Skip t) make c h = ends_map t make None h
 
-none_left : {A : Type 0} (line : List ℕ) (x : A) (v : A × ℕ) (at : ℕ) (c : Option (Option (List ℕ)))
+none_left : {A : Type 0} (line : List ℕ) (x : A) (v : A × ℕ) (at : ℕ) (c : Seen)
     (o : Option (List ℕ × ℕ)) → word_at line at ≡ o → IsEnd c → Matches c o
     → ◌≡◌ {A = Result (A × ℕ) Flaw} (Ok (x, at)) (Ok v) → words_from line v.1 ≡ []
 none_left line x v at None o e end same h = absurd end
@@ -483,7 +487,7 @@ none_left line x v at (Some None) (Some w) e end same h = absurd cc
 none_left {A} line x v at (Some None) None e end same h =
     subst (λ (u : A × ℕ). words_from line u.1 ≡ []) (same_result (x, at) v h) (no_word_is line at e)
 
-pub run_end : {A : Type 0} (line : List ℕ) (v : A × ℕ) (t : Tree A) (c : Option (Option (List ℕ))) (at : ℕ)
+pub run_end : {A : Type 0} (line : List ℕ) (v : A × ℕ) (t : Tree A) (c : Seen) (at : ℕ)
     → EndsAt c t → Matches c (word_at line at) → run t line at ≡ Ok v → words_from line v.1 ≡ []
 run_end line v (Done x) c at end same h = none_left line x v at c (word_at line at) refl end same h
 run_end line v (Fail kind) c at end same h = absurd (not_ok (flaw (place_in line at (word_at line at)) kind) v h)

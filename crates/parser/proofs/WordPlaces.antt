@@ -1,15 +1,10 @@
 -- Words between two parts of a line, and the places before and after them.
-use Rattle.std.proofs.Common.{◌≡◌, ℕ, ◌+◌, ◌<◌, ◌≤◌, Bool, true, false, cond, nat_lt, List, [], ◌∷◌}
-use Rattle.std.proofs.Common.{◌++◌, length, take, drop, Some, None, position, refl, sym, ap, subst, ◌∙◌, arith}
-use Rattle.std.proofs.Common.{inl, inr, append-nil, append_assoc, length-append}
-use Rattle.std.specs.Prelude.{◌⊎◌, not}
-use Rattle.std.specs.List.{AllByRecursion, position_or_len}
-use Rattle.std.proofs.lemmas.Bool.{le-ltb, lt-ltb}
-use Rattle.std.proofs.lemmas.Bool.Decides.{nat_tests}
-use Rattle.std.proofs.lemmas.List.{take-append-drop, length-take}
-use Rattle.std.proofs.Math.Seq.{take-append_seam, drop-append_seam}
-use Rattle.parser.specs.Words.{cut_at, word_at}
-use Rattle.parser.specs.Faults.{IsWordEnd}
+use Rattle.parser.proofs.Names.{Bool, List, None, Some, [], ap, append-nil, append_assoc, arith, cond, drop, false}
+use Rattle.parser.proofs.Names.{inl, inr, length, length-append, nat_lt, position, refl, subst, sym, take, true, ℕ}
+use Rattle.parser.proofs.Names.{◌++◌, ◌+◌, ◌<◌, ◌∙◌, ◌∷◌, ◌≡◌, ◌≤◌, ◌⊎◌, take-append_seam, le-ltb, lt-ltb, nat_tests}
+use Rattle.parser.proofs.Names.{length-take, take-append-drop, AllByRecursion, position_or_len, not, IsWordEnd}
+use Rattle.parser.proofs.Names.{cut_at, word_at}
+use Rattle.std.proofs.Math.Seq.{drop-append_seam}
 use Rattle.parser.proofs.Places.{space}
 
 -- ---- a word between two parts of a line
@@ -68,9 +63,8 @@ at_none word h =
     let past : nat_lt (length word) (length word) ≡ false = le-ltb (length word) (length word) (omega arith) in
     ap (λ (k : ℕ). cond (nat_lt k (length word)) (Some k) None) at ∙ rw past refl
 
-cut_place : (line : List ℕ) (at : ℕ) (rest word back : List ℕ) → rest ≡ word ++ back → HasNoSpace word
-    → IsWordEnd back → length line ≡ at + length rest
-    → cut_at line at rest (position space rest) ≡ (word, at + length word + 1)
+cut_place : (line : List ℕ) (at : ℕ) (rest word back : List ℕ) → rest ≡ word ++ back → HasNoSpace word → IsWordEnd back
+    → length line ≡ at + length rest → cut_at line at rest (position space rest) ≡ (word, at + length word + 1)
 cut_place line at rest word back e plain (inl none) long =
     let same : rest ≡ word = e ∙ ap (λ (x : List ℕ). word ++ x) none ∙ append-nil word in
     let size = ap length same in

@@ -1,20 +1,13 @@
 -- Readers of one word as trees: required words, numbers, names, addresses, and the end of a line.
-use Rattle.std.proofs.Common.{◌≡◌, ℕ, ◌<◌, ◌≤◌, ◌^◌, Bool, true, false, cond, nat_lt, List, [], ◌∷◌, ◌++◌, length}
-use Rattle.std.proofs.Common.{Option, Some, None, refl, sym, ap, subst, ◌∙◌, arith, inl, inr, append-nil}
-use Rattle.std.specs.Prelude.{Result, Ok, Err, ◌==◌, ◌||◌, not, nat_le}
-use Rattle.std.specs.Fmt.{decimal}
-use Rattle.std.specs.Str.{bytes_eq}
-use Rattle.std.proofs.lemmas.Bool.{cases_lt, or_parts, not-false, leb-false}
-use Rattle.std.proofs.lemmas.Bool.Decides.{Decides-eqb, nat_tests}
-use Rattle.std.proofs.lemmas.Slice.Eq.{bytes_eq-Decides}
-use Rattle.parser.specs.declared.fault.FaultKind.{FaultKind}
+use Rattle.parser.proofs.Names.{Bool, List, None, Option, Some, [], ap, append-nil, arith, cond, false, inl, inr}
+use Rattle.parser.proofs.Names.{length, nat_lt, refl, subst, sym, true, ℕ, ◌++◌, ◌<◌, ◌^◌, ◌∙◌, ◌∷◌, ◌≡◌, ◌≤◌}
+use Rattle.parser.proofs.Names.{cases_lt, not-false, or_parts, Decides-eqb, nat_tests, bytes_eq-Decides, decimal, Err}
+use Rattle.parser.proofs.Names.{Ok, Result, nat_le, not, ◌==◌, ◌||◌, bytes_eq, IsWrongWord, address_word, address_in}
+use Rattle.parser.proofs.Names.{address_number, flaw, in_range, named_in, offset_in, or_flaw, page_in, ◌>>=◌}
+use Rattle.parser.proofs.Names.{address_at, capped_from, end_at, fixed_at, is_number, named_at, number_at}
+use Rattle.parser.proofs.Names.{point_parts, word_at, word_or, FaultKind, Flaw}
+use Rattle.std.proofs.lemmas.Bool.{leb-false}
 use Rattle.parser.specs.declared.fault.FaultKind.TheVariants as kinds
-use Rattle.parser.specs.declared.fault.Flaw.{Flaw}
-use Rattle.parser.specs.Words.{◌>>=◌, word_at, flaw, or_flaw, word_or, fixed_at, is_number, capped_from, number_at}
-use Rattle.parser.specs.Words.{in_range, named_in, named_at, point_parts, address_number, address_in, address_at, end_at}
-use Rattle.parser.specs.Words.{page_in, offset_in}
-use Rattle.parser.specs.Spelling.{address_word}
-use Rattle.parser.specs.Faults.{IsWrongWord}
 use Rattle.parser.proofs.Numbers.{number_spelled, IsPlain, number_plain}
 use Rattle.parser.proofs.Places.{past_end, fixed_again, number_again, named_again}
 use Rattle.parser.proofs.Addresses.{parts_are, page_again, offset_again, address_again, address_plain}
@@ -22,14 +15,15 @@ use Rattle.parser.proofs.WordPlaces.{finds_word, none_past}
 use Rattle.parser.proofs.Trees.{IsReadBy, run_ok}
 use Rattle.parser.proofs.Trees.{Tree, Done, Fail, Look, Skip, word_in, place_in, behind_in, run, Starts, Lives, IsSound}
 use Rattle.parser.proofs.Trees.{EndsAt, ends_chain, ends_map, IsGood, chain, good_chain, run_chain, bind_same}
+use Rattle.parser.proofs.Trees.{Words, Sense, Rest, Seen}
 
 -- ---- one word
 
 -- anything may follow, or nothing
-abbrev pub Any : List (List ℕ) → Type 0
+abbrev pub Any : Rest
 Any ws = Unit {0}
 
-abbrev pub IsLast : List (List ℕ) → Type 0
+abbrev pub IsLast : Rest
 IsLast ws = ws ≡ []
 
 abbrev pub or_missing : {A : Type 0} → FaultKind → (List ℕ → Tree A) → Option (List ℕ) → Tree A
@@ -50,29 +44,26 @@ bind_ok_is (Ok x) = refl
 bind_ok_is (Err d) = refl
 
 -- a tree that is done
-abbrev pub done_lives : {A : Type 0} (May : List (List ℕ) → Type 0) (P : A → List (List ℕ) → Type 0) (x : A) → P x []
-    → Lives May P (Done x)
+abbrev pub done_lives : {A : Type 0} (May : Rest) (P : Sense A) (x : A) → P x [] → Lives May P (Done x)
 done_lives May P x h =
     record { words = []; plain = tt; value = x; is = h; reads = λ line at rest may e. (at, refl, e) }
 
-abbrev pub done_good : {A : Type 0} (May : List (List ℕ) → Type 0) (P : A → List (List ℕ) → Type 0) (x : A) → P x []
-    → IsGood May P (Done x)
+abbrev pub done_good : {A : Type 0} (May : Rest) (P : Sense A) (x : A) → P x [] → IsGood May P (Done x)
 done_good May P x h = record { lives = done_lives May P x h; sound = λ c. h }
 
-pub past_sound : {A : Type 0} (May : List (List ℕ) → Type 0) (P : A → List (List ℕ) → Type 0) (first : Bool)
+pub past_sound : {A : Type 0} (May : Rest) (P : Sense A) (first : Bool)
     (w : List ℕ) (x : A) → P x (w ∷ []) → IsSound May P first (Some (Some w)) (Skip (Done x))
 past_sound {A} May P first w x h = (done_lives May (λ (x : A) ws. P x (w ∷ ws)) x h, h)
 
 -- a choice is sound if each of its trees is, by the test
-pub sound_pick : {A : Type 0} (May : List (List ℕ) → Type 0) (P : A → List (List ℕ) → Type 0) (first : Bool)
-    (c : Option (Option (List ℕ))) (b : Bool) (t u : Tree A) → (b ≡ true → IsSound May P first c t)
-    → (b ≡ false → IsSound May P first c u) → IsSound May P first c (cond b t u)
+pub sound_pick : {A : Type 0} (May : Rest) (P : Sense A) (first : Bool) (c : Seen) (b : Bool) (t u : Tree A)
+    → (b ≡ true → IsSound May P first c t) → (b ≡ false → IsSound May P first c u) → IsSound May P first c (cond b t u)
 sound_pick May P first c true t u h k = h refl
 sound_pick May P first c false t u h k = k refl
 
 -- a good tree, with a weaker condition on its values, or after which less may follow
-module _ {A : Type 0} (More May : List (List ℕ) → Type 0) (less : (rest : List (List ℕ)) → May rest → More rest) where
-  changed_lives : (P Q : A → List (List ℕ) → Type 0) (t : Tree A) → ((x : A) (ws : List (List ℕ)) → P x ws → Q x ws)
+module _ {A : Type 0} (More May : Rest) (less : (rest : Words) → May rest → More rest) where
+  changed_lives : (P Q : Sense A) (t : Tree A) → ((x : A) (ws : Words) → P x ws → Q x ws)
       → Lives More P t → Lives May Q t
   changed_lives P Q t h l = record {
     words = l.words;
@@ -82,47 +73,44 @@ module _ {A : Type 0} (More May : List (List ℕ) → Type 0) (less : (rest : Li
     reads = λ line at rest may e. l.reads line at rest (less rest may) e;
   }
 
-  changed_sound : (t : Tree A) (P Q : A → List (List ℕ) → Type 0) → ((x : A) (ws : List (List ℕ)) → P x ws → Q x ws)
-      → (first : Bool) (c : Option (Option (List ℕ))) → IsSound More P first c t → IsSound May Q first c t
+  changed_sound : (t : Tree A) (P Q : Sense A) → ((x : A) (ws : Words) → P x ws → Q x ws)
+      → (first : Bool) (c : Seen) → IsSound More P first c t → IsSound May Q first c t
   changed_sound (Done x) P Q h first c s = h x [] s
   changed_sound (Fail kind) P Q h first c s = s
   changed_sound (Look f) P Q h first c s = λ o. changed_sound (f o) P Q h first (Some o) (s o)
   changed_sound (Skip t) P Q h first None s = s
   changed_sound (Skip t) P Q h first (Some None) s = s
   changed_sound (Skip t) P Q h first (Some (Some w)) s =
-      let past = λ (x : A) (ws : List (List ℕ)). h x (w ∷ ws) in (
+      let past = λ (x : A) (ws : Words). h x (w ∷ ws) in (
         changed_lives (λ (x : A) ws. P x (w ∷ ws)) (λ (x : A) ws. Q x (w ∷ ws)) t past s.0,
         changed_sound t (λ (x : A) ws. P x (w ∷ ws)) (λ (x : A) ws. Q x (w ∷ ws)) past false None s.1,
       )
 
-  pub changed : (P Q : A → List (List ℕ) → Type 0) (t : Tree A) → ((x : A) (ws : List (List ℕ)) → P x ws → Q x ws)
+  pub changed : (P Q : Sense A) (t : Tree A) → ((x : A) (ws : Words) → P x ws → Q x ws)
       → IsGood More P t → IsGood May Q t
   changed P Q t h g =
       record { lives = changed_lives P Q t h g.lives; sound = λ c. changed_sound t P Q h false c (g.sound c) }
 
-pub weaker : {A : Type 0} (May : List (List ℕ) → Type 0) (P Q : A → List (List ℕ) → Type 0) (t : Tree A)
-    → ((x : A) (ws : List (List ℕ)) → P x ws → Q x ws) → IsGood May P t → IsGood May Q t
+pub weaker : {A : Type 0} (May : Rest) (P Q : Sense A) (t : Tree A)
+    → ((x : A) (ws : Words) → P x ws → Q x ws) → IsGood May P t → IsGood May Q t
 weaker May P Q t h g = changed May May (λ rest may. may) P Q t h g
 
-pub narrower : {A : Type 0} (More May : List (List ℕ) → Type 0) → ((rest : List (List ℕ)) → May rest → More rest)
-    → (P : A → List (List ℕ) → Type 0) (t : Tree A) → IsGood More P t → IsGood May P t
+pub narrower : {A : Type 0} (More May : Rest) → ((rest : Words) → May rest → More rest)
+    → (P : Sense A) (t : Tree A) → IsGood More P t → IsGood May P t
 narrower More May less P t g = changed More May less P P t (λ x ws p. p) g
 
 -- a good tree, whose values go into others
-pub good_map : {A B : Type 0} (May : List (List ℕ) → Type 0) (P : A → List (List ℕ) → Type 0)
-    (Q : B → List (List ℕ) → Type 0) (make : A → B) (t : Tree A)
-    → ((x : A) (ws : List (List ℕ)) → P x ws → Q (make x) ws) → IsGood May P t
-    → IsGood May Q (chain t (λ x. Done (make x)))
+pub good_map : {A B : Type 0} (May : Rest) (P : Sense A) (Q : Sense B) (make : A → B) (t : Tree A)
+    → ((x : A) (ws : Words) → P x ws → Q (make x) ws) → IsGood May P t → IsGood May Q (chain t (λ x. Done (make x)))
 good_map {A} {B} May P Q make t h g = good_chain May May (λ (x : A). Done (make x)) P Q t g (record {
   good = λ x ws p. done_good May (λ (y : B) vs. Q y (ws ++ vs)) (make x)
       (subst (Q (make x)) (sym (append-nil ws)) (h x ws p));
   follows = λ x ws p rest may. may;
 })
 
-pub word_sound : {A : Type 0} (May : List (List ℕ) → Type 0) (P : A → List (List ℕ) → Type 0) (first : Bool)
-    (c : Option (Option (List ℕ))) (kind : FaultKind) (f : List ℕ → Tree A)
-    → ((front : List ℕ) → IsWrongWord kind front []) → ((w : List ℕ) → IsSound May P first (Some (Some w)) (f w))
-    → IsSound May P first c (word_tree kind f)
+pub word_sound : {A : Type 0} (May : Rest) (P : Sense A) (first : Bool) (c : Seen) (kind : FaultKind)
+    (f : List ℕ → Tree A) → ((front : List ℕ) → IsWrongWord kind front [])
+    → ((w : List ℕ) → IsSound May P first (Some (Some w)) (f w)) → IsSound May P first c (word_tree kind f)
 word_sound {A} May P first c kind f missing h = λ o. by_word o
   where
     by_word : (o : Option (List ℕ)) → IsSound May P first (Some o) (or_missing kind f o)
@@ -180,7 +168,7 @@ fixed_run line at text =
     by_test w e true = past_run line at tt w e
     by_test w e false = fail_run line at kinds.UnknownWord w e
 
-abbrev pub IsText : List ℕ → Unit {0} → List (List ℕ) → Type 0
+abbrev pub IsText : List ℕ → Unit {0} → Rest
 IsText text u ws = ws ≡ text ∷ []
 
 pub fixed_good : (text : List ℕ) → IsPlain text → IsGood Any (IsText text) (fixed_tree text)
@@ -210,8 +198,7 @@ number_or low high k = word_tree kinds.NumberExpected (λ w. cond (not (is_numbe
 abbrev pub number_tree : ℕ → ℕ → Tree ℕ
 number_tree low high = number_or low high (λ n. Skip (Done n))
 
-pub number_or_run : {A : Type 0} (line : List ℕ) (at low high : ℕ) (k : ℕ → Tree A)
-    (g : ℕ × ℕ → Result (A × ℕ) Flaw)
+pub number_or_run : {A : Type 0} (line : List ℕ) (at low high : ℕ) (k : ℕ → Tree A) (g : ℕ × ℕ → Result (A × ℕ) Flaw)
     → ((n : ℕ) (w : List ℕ × ℕ) → word_at line at ≡ Some w → run (k n) line at ≡ g (n, w.1))
     → run (number_or low high k) line at ≡ (number_at line at low high >>= g)
 unfolding number_at
@@ -229,7 +216,7 @@ number_run line at low high =
     ∙ bind_ok_is (number_at line at low high)
 
 -- a number from low to high, and its word
-pub record IsNumberOf (low high n : ℕ) (ws : List (List ℕ)) : Type 0 where
+pub record IsNumberOf (low high n : ℕ) (ws : Words) : Type 0 where
   pub words_are : ws ≡ decimal n ∷ []
   pub above : low ≤ n
   pub below : n ≤ high
@@ -238,10 +225,9 @@ no_number : is_number [] ≡ false
 unfolding is_number
 no_number = refl
 
-pub number_or_sound : {A : Type 0} (May : List (List ℕ) → Type 0) (P : A → List (List ℕ) → Type 0) (first : Bool)
-    (c : Option (Option (List ℕ))) (low high : ℕ) (k : ℕ → Tree A) → high < 2 ^ 64 → ((n : ℕ) (w : List ℕ)
-    → is_number w ≡ true → IsNumberOf low high n (w ∷ []) → IsSound May P first (Some (Some w)) (k n))
-    → IsSound May P first c (number_or low high k)
+pub number_or_sound : {A : Type 0} (May : Rest) (P : Sense A) (first : Bool) (c : Seen) (low high : ℕ) (k : ℕ → Tree A)
+    → high < 2 ^ 64 → ((n : ℕ) (w : List ℕ) → is_number w ≡ true → IsNumberOf low high n (w ∷ [])
+    → IsSound May P first (Some (Some w)) (k n)) → IsSound May P first c (number_or low high k)
 number_or_sound May P first c low high k fits h = word_sound May P first c kinds.NumberExpected _ (λ front. no_number)
     (λ w. let n = capped_from 0 w in
     sound_pick May P first (Some (Some w)) (not (is_number w)) (Fail kinds.NumberExpected) _
@@ -319,7 +305,7 @@ named_run line at letter count missing =
     ∙ bind_ok_is (named_at line at letter count missing)
 
 -- a letter and a number below count, as a word
-pub record IsNameIn (letter count n : ℕ) (ws : List (List ℕ)) : Type 0 where
+pub record IsNameIn (letter count n : ℕ) (ws : Words) : Type 0 where
   pub words_are : ws ≡ (letter ∷ decimal n) ∷ []
   pub below : n < count
 
@@ -328,7 +314,7 @@ abbrev pub IsAbsent : Bool → ℕ → FaultKind → Type 0
 IsAbsent first letter missing = (front digits : List ℕ) → Starts first front → is_number digits ≡ true
     → IsWrongWord missing front (letter ∷ digits)
 
-pub name_sound : {A : Type 0} (May : List (List ℕ) → Type 0) (P : A → List (List ℕ) → Type 0) (first : Bool)
+pub name_sound : {A : Type 0} (May : Rest) (P : Sense A) (first : Bool)
     (letter count : ℕ) (missing : FaultKind) (k : ℕ → Tree A) → count < 2 ^ 64 → IsAbsent first letter missing
     → (w : List ℕ) → ((n : ℕ) → IsNameIn letter count n (w ∷ []) → IsSound May P first (Some (Some w)) (k n))
     → IsSound May P first (Some (Some w)) (name_in letter count missing k w)
@@ -395,7 +381,7 @@ address_run line at words =
         (past_run line at (address_number (capped_from 0 parts.0) (capped_from 0 parts.1)) w e))
 
 -- an address with an offset below a number of words, and its word
-pub record IsAddressIn (words n : ℕ) (ws : List (List ℕ)) : Type 0 where
+pub record IsAddressIn (words n : ℕ) (ws : Words) : Type 0 where
   pub words_are : ws ≡ address_word (page_in n) (offset_in n) ∷ []
   pub fits : n < 2 ^ 64
   pub within : offset_in n < words
@@ -466,7 +452,7 @@ end_run line at = elim (cases_lt (length line) at) [
       ∙ fail_run {A = Unit {0}} line at kinds.EndOfLineExpected found.w found.found ∙ rw test refl
 ]
 
-pub end_good : IsGood IsLast (λ (u : Unit {0}) (ws : List (List ℕ)). ws ≡ []) end_tree
+pub end_good : IsGood IsLast (λ (u : Unit {0}) (ws : Words). ws ≡ []) end_tree
 end_good = record {
   lives = record {
     words = [];
@@ -482,8 +468,7 @@ end_good = record {
   sound = λ c o. by_word o;
 }
   where
-    by_word : (o : Option (List ℕ))
-        → IsSound IsLast (λ (u : Unit {0}) (ws : List (List ℕ)). ws ≡ []) false (Some o) (end_in o)
+    by_word : (o : Option (List ℕ)) → IsSound IsLast (λ (u : Unit {0}) (ws : Words). ws ≡ []) false (Some o) (end_in o)
     by_word None = refl
     by_word (Some w) = λ front start. start
 
@@ -511,8 +496,7 @@ whole_run {A} t line at r e = values_chain t (λ (x : A). chain end_tree (λ u. 
     values_chain end_tree (λ u. Done x.0) line x.1 (end_at line x.1 >>= (λ u. Ok (u, x.1))) (λ u. Ok x.0)
     (end_run line x.1) (λ u. refl) ∙ bind_assoc (end_at line x.1) _ _)
 
-pub whole_good : {A : Type 0} (P : A → List (List ℕ) → Type 0) (t : Tree A) → IsGood IsLast P t
-    → IsGood IsLast P (whole_tree t)
+pub whole_good : {A : Type 0} (P : Sense A) (t : Tree A) → IsGood IsLast P t → IsGood IsLast P (whole_tree t)
 whole_good {A} P t h = good_chain IsLast IsLast (λ (x : A). chain end_tree (λ u. Done x)) P P t h (record {
   good = λ x ws p.
       let is : P x (ws ++ []) = subst (P x) (sym (append-nil ws)) p in
@@ -529,8 +513,8 @@ whole_good {A} P t h = good_chain IsLast IsLast (λ (x : A). chain end_tree (λ 
             e,
           );
         };
-        sound = (good_map IsLast (λ (u : Unit {0}) (vs : List (List ℕ)). vs ≡ []) (λ (y : A) vs. P y (ws ++ vs))
-            (λ u. x) end_tree (λ u vs e. subst (λ (vs : List (List ℕ)). P x (ws ++ vs)) (sym e) is) end_good).sound;
+        sound = (good_map IsLast (λ (u : Unit {0}) (vs : Words). vs ≡ []) (λ (y : A) vs. P y (ws ++ vs))
+            (λ u. x) end_tree (λ u vs e. subst (λ (vs : Words). P x (ws ++ vs)) (sym e) is) end_good).sound;
       };
   follows = λ x ws p rest may. may;
 })
@@ -542,6 +526,6 @@ end_ends_at = λ o. by_word o
     by_word None = tt
     by_word (Some w) = tt
 
-pub whole_ends : {A : Type 0} (t : Tree A) (c : Option (Option (List ℕ))) → EndsAt c (whole_tree t)
+pub whole_ends : {A : Type 0} (t : Tree A) (c : Seen) → EndsAt c (whole_tree t)
 whole_ends {A} t c = ends_chain t (λ (x : A). chain end_tree (λ u. Done x)) c (λ x d. ends_map end_tree (λ u. x) d
     end_ends_at)
