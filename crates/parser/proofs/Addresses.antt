@@ -6,11 +6,11 @@ use Rattle.parser.proofs.Names.{join_with_byte-slice_split, same_Some, decimal, 
 use Rattle.parser.proofs.Names.{list_all, position_or_len, slice_split, Ok, nat_le, not, ◌==◌, address_word}
 use Rattle.parser.proofs.Names.{address_in, address_number, is_digit, offset_in, page_in, address_at, point_parts}
 use Rattle.std.proofs.Math.Seq.{drop-append-add}
-use Rattle.parser.specs.declared.fault.FaultKind.TheVariants as kinds
 use Rattle.parser.specs.Words.{parts_at}
 use Rattle.parser.proofs.Lists.{split_cons, split_some}
 use Rattle.parser.proofs.Numbers.{IsPlain, number_plain, number_read, decimal_digits}
-use Rattle.parser.proofs.Places.{words_from, Reads, word_again}
+use Rattle.parser.proofs.WordPlaces.{words_from, Reads, word_again}
+use Rattle.parser.specs.declared.fault.FaultKind.TheVariants as kinds
 
 -- ---- the parts of a word
 

@@ -6,7 +6,7 @@ use Rattle.parser.proofs.Names.{first_word, fault_at, fault_of, is_sought, first
 use Rattle.parser.proofs.Names.{Sought}
 use Rattle.std.specs.Option.{option_map}
 use Rattle.parser.proofs.Lists.{split_some, split_none}
-use Rattle.parser.proofs.Places.{space}
+use Rattle.parser.proofs.WordPlaces.{space}
 
 -- ---- the place of a line's second word
 

@@ -5,23 +5,19 @@ use Rattle.parser.proofs.Names.{bytes_eq-Decides, decimal, Err, Ok, Result, code
 use Rattle.parser.proofs.Names.{is_page_size, config_of, heap_in, memory_at, page_size_at, sizes_at, SpellsLimit}
 use Rattle.parser.proofs.Names.{size_words, flaw, ◌>>=◌, fixed_at, number_at, word_at, Flaw, Sizes}
 use Rattle.std.proofs.Common.{lit≤}
-use Rattle.parser.specs.declared.fault.FaultKind.TheVariants as kinds
 use Rattle.model.specs.declared.limits.TheConstants.{MOST_PAGES}
 use Rattle.parser.specs.declared.limits.TheConstants.{MOST_FRAMES, MOST_THREADS}
-use Rattle.parser.specs.Headings.{field_at, limit_in, limit_at}
-use Rattle.parser.specs.Headings.{sizes_of, actors_at, limits_at}
+use Rattle.parser.specs.Headings.{field_at, limit_in, limit_at, sizes_of, actors_at, limits_at}
 use Rattle.parser.proofs.Numbers.{IsPlain, number_plain}
-use Rattle.parser.proofs.Places.{words_from, found_word, past_end, Reads}
-use Rattle.parser.proofs.Places.{fixed_again, number_again, end_again}
+use Rattle.parser.proofs.WordPlaces.{words_from, found_word, past_end, Reads, fixed_again, number_again, end_again}
 use Rattle.parser.proofs.WordPlaces.{none_past}
-use Rattle.parser.proofs.Trees.{EndsAt, Tree, Done, Fail, Look, Skip, word_in, behind_in, run, chain, chained, IsSound}
-use Rattle.parser.proofs.Trees.{IsGood, good_chain}
-use Rattle.parser.proofs.WordTrees.{run_pick, sound_pick}
-use Rattle.parser.proofs.WordTrees.{Any, IsLast, bind_assoc, fail_run, past_run, past_sound}
-use Rattle.parser.proofs.WordTrees.{weaker, good_map, fixed_tree, fixed_run, fixed_good, IsText, number_or, number_tree}
-use Rattle.parser.proofs.WordTrees.{number_or_run, number_run, number_or_sound, number_good, IsNumberOf}
+use Rattle.parser.proofs.Trees.{EndsAt, Tree, Done, Fail, Look, Skip, word_in, behind_in, run, chain, chained}
+use Rattle.parser.proofs.Trees.{IsSound, IsGood, good_chain, Words, Sense, Rest}
+use Rattle.parser.proofs.WordTrees.{run_pick, sound_pick, Any, IsLast, bind_assoc, fail_run, past_run, past_sound}
+use Rattle.parser.proofs.WordTrees.{weaker, good_map, fixed_tree, fixed_run, fixed_good, IsText, number_or}
+use Rattle.parser.proofs.WordTrees.{number_tree, number_or_run, number_run, number_or_sound, number_good, IsNumberOf}
 use Rattle.parser.proofs.WordTrees.{values, whole_tree, whole_run, whole_good, whole_ends, narrower}
-use Rattle.parser.proofs.Trees.{Words, Sense, Rest}
+use Rattle.parser.specs.declared.fault.FaultKind.TheVariants as kinds
 
 -- ---- a number after its name
 

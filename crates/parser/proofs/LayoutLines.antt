@@ -3,18 +3,13 @@ use Rattle.parser.proofs.Names.{Bool, List, None, Option, Some, [], ap, arith, c
 use Rattle.parser.proofs.Names.{true, ℕ, ◌+◌, ◌∙◌, ◌∷◌, ◌≡◌, ◌≤◌, le-ltb, ltb-false, decimal, Err, Ok, Result, Layout}
 use Rattle.parser.proofs.Names.{not_refused, same_result, layout_in, IsLayout, flaw, ◌>>=◌, end_at, number_at}
 use Rattle.parser.proofs.Names.{word_at, Flaw, Sizes}
+use Rattle.parser.proofs.WordPlaces.{words_from, bind_ok, number_again, end_ok, end_again}
+use Rattle.parser.proofs.Trees.{Tree, Done, Fail, Skip, behind_in, run, chain, chained, Lives, IsSound, IsGood}
+use Rattle.parser.proofs.Trees.{good_chain, bind_same, Words, Rest}
+use Rattle.parser.proofs.WordTrees.{number_ok, run_pick, sound_pick, Any, bind_assoc, fail_run, number_or}
+use Rattle.parser.proofs.WordTrees.{number_tree, number_or_run, number_run, number_or_sound, number_good, IsNumberOf}
+use Rattle.parser.proofs.WordTrees.{end_tree, end_in, end_run, values, values_chain}
 use Rattle.parser.specs.declared.fault.FaultKind.TheVariants as kinds
-use Rattle.parser.proofs.Places.{words_from}
-use Rattle.parser.proofs.Places.{bind_ok, number_again, end_ok, end_again}
-use Rattle.parser.proofs.Trees.{Tree, Done, Fail, Skip, behind_in, run, chain, chained, Lives, IsSound}
-use Rattle.parser.proofs.Trees.{IsGood, good_chain, bind_same}
-use Rattle.parser.proofs.WordTrees.{number_ok}
-use Rattle.parser.proofs.WordTrees.{run_pick, sound_pick}
-use Rattle.parser.proofs.WordTrees.{Any, bind_assoc, fail_run}
-use Rattle.parser.proofs.WordTrees.{number_or, number_tree}
-use Rattle.parser.proofs.WordTrees.{number_or_run, number_run, number_or_sound, number_good, IsNumberOf, end_tree}
-use Rattle.parser.proofs.WordTrees.{end_in, end_run, values, values_chain}
-use Rattle.parser.proofs.Trees.{Words, Rest}
 
 -- a layout is spelled from a place to the end, and its objects fit
 pub record IsLayoutAt (words : ℕ) (line : List ℕ) (at : ℕ) (l : Layout) : Type 0 where

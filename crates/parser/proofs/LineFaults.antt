@@ -3,27 +3,25 @@ use Rattle.parser.proofs.Names.{Bool, List, None, Option, Some, [], ap, append-n
 use Rattle.parser.proofs.Names.{length, lit<, nat_lt, refl, subst, sym, true, ℕ, ◌*◌, ◌++◌, ◌+◌, ◌∙◌, ◌∷◌, ◌≡◌, ◌≢◌}
 use Rattle.parser.proofs.Names.{◌≤◌, lt-ltb, ltb-false, nat_tests, bytes_eq-Decides, decimal, repeat, Err, Ok, Result}
 use Rattle.parser.proofs.Names.{codes, nat_le, not, ◌&&◌, ◌==◌, ◌||◌, bytes_eq, Layout, same_result, Actor, Thread}
-use Rattle.parser.proofs.Names.{Worker, config_of, first_byte, ReadSoFar, first_word_in, is_full, line_after}
-use Rattle.parser.proofs.Names.{nothing, with_command, first_word, line_in, IsActor, actor_word, line_of, order_words}
+use Rattle.parser.proofs.Names.{Worker, config_of, first_byte, ReadSoFar, first_word_in, is_full, line_after, nothing}
+use Rattle.parser.proofs.Names.{with_command, first_word, line_in, IsActor, actor_word, line_of, order_words}
 use Rattle.parser.proofs.Names.{capped_from, is_number, Flaw, Sizes, MOST_LAYOUTS, MOST_COMMANDS, MOST_TURNS}
-use Rattle.parser.specs.declared.fault.FaultKind.TheVariants as kinds
-use Rattle.parser.proofs.Places.{words_from}
-use Rattle.parser.proofs.WordPlaces.{finds_word}
+use Rattle.parser.proofs.WordPlaces.{words_from, finds_word}
 use Rattle.parser.proofs.ActorsAndOrders.{line_is}
 use Rattle.parser.proofs.Alike.{IsFaultAt}
 use Rattle.parser.proofs.HeapLines.{heap_ends, IsSizes, SpellsSizes, heap_tree, heap_good}
 use Rattle.parser.proofs.LayoutLines.{layout_tree, layout_good}
 use Rattle.parser.proofs.LineTrees.{line_run, heap_step, layout_step, times_step, end_step, order_step, command_step}
-use Rattle.parser.proofs.LineTrees.{line_step, fault_of}
+use Rattle.parser.proofs.LineTrees.{line_step, fault_of, later_step}
 use Rattle.parser.proofs.OrderTrees.{verb_tree, operands_tree, IsOrderOf, order_tree, order_good}
 use Rattle.parser.proofs.SaidSoFar.{Said, few_actors, some_layouts}
 use Rattle.parser.proofs.OtherLines.{IsOtherLine, is_layout_next}
-use Rattle.parser.proofs.Trees.{EndsAt, ends_chain, ends_map, run, run_ok, run_end, Tree, Done, Fail, Skip, word_in, chain, IsSound, IsGood, run_wrong}
-use Rattle.parser.proofs.WordTrees.{sound_pick}
-use Rattle.parser.proofs.LineTrees.{later_step}
-use Rattle.parser.proofs.WordTrees.{Any, IsLast, good_map, narrower, name_in, name_sound, number_tree, number_good, IsNumberOf}
-use Rattle.parser.proofs.WordTrees.{end_ends_at, whole_ends, values, end_tree, end_good, whole_tree, whole_good}
-use Rattle.parser.proofs.Trees.{Words, Sense, Rest, Seen}
+use Rattle.parser.proofs.Trees.{EndsAt, ends_chain, ends_map, run, run_ok, run_end, Tree, Done, Fail, Skip, word_in}
+use Rattle.parser.proofs.Trees.{chain, IsSound, IsGood, run_wrong, Words, Sense, Rest, Seen}
+use Rattle.parser.proofs.WordTrees.{sound_pick, Any, IsLast, good_map, narrower, name_in, name_sound, number_tree}
+use Rattle.parser.proofs.WordTrees.{number_good, IsNumberOf, end_ends_at, whole_ends, values, end_tree, end_good}
+use Rattle.parser.proofs.WordTrees.{whole_tree, whole_good}
+use Rattle.parser.specs.declared.fault.FaultKind.TheVariants as kinds
 
 other_word : (v w : List ℕ) → bytes_eq v w ≡ false → v ≢ w
 other_word v w h e = let same = (bytes_eq-Decides v w).1 e in absurd cc

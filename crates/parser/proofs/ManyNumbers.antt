@@ -4,9 +4,9 @@ use Rattle.parser.proofs.Names.{subst, suc, sym, zero, ℕ, ◌++◌, ◌+◌, �
 use Rattle.parser.proofs.Names.{lt-ltb, same_Some, decimal, AllByRecursion, Err, Ok, Result, map, not, ◌||◌}
 use Rattle.parser.proofs.Names.{not_refused, same_result, numbers_at, numbers_by, flaw, in_range, ◌>>=◌, capped_from}
 use Rattle.parser.proofs.Names.{is_number, number_at, small_at, word_at, word_or, FaultKind, Flaw}
-use Rattle.parser.specs.declared.fault.FaultKind.TheVariants as kinds
-use Rattle.parser.proofs.Places.{words_from, Reads, bind_ok, or_flaw_ok, past_end, end_past, small_again}
+use Rattle.parser.proofs.WordPlaces.{words_from, Reads, bind_ok, or_flaw_ok, past_end, end_past, small_again}
 use Rattle.parser.proofs.WordPlaces.{finds_word, none_past}
+use Rattle.parser.specs.declared.fault.FaultKind.TheVariants as kinds
 
 -- ---- places
 

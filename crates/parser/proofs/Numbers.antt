@@ -3,11 +3,9 @@ use Rattle.parser.proofs.Names.{Bool, List, [], ap, arith, false, get_or, inl, i
 use Rattle.parser.proofs.Names.{◌*◌, ◌+◌, ◌<◌, ◌^◌, ◌∙◌, ◌∷◌, ◌≡◌, and_parts, cases_lt, nat_tests, decimal_digit}
 use Rattle.parser.proofs.Names.{first_decimal, decimal, list_all, not, ◌&&◌, ◌==◌, ◌||◌, is_digit, capped_from}
 use Rattle.parser.proofs.Names.{is_number}
-use Rattle.std.proofs.Common.{◌-◌}
-use Rattle.std.proofs.Common.{rules}
+use Rattle.std.proofs.Common.{◌-◌, rules}
 use Rattle.std.specs.Prelude.{min}
-use Rattle.std.proofs.lemmas.Fmt.{decimal-digits_value, digits_decimal, digits_value-decimal}
-use Rattle.std.proofs.lemmas.Fmt.{decimal_nonempty}
+use Rattle.std.proofs.lemmas.Fmt.{decimal-digits_value, digits_decimal, digits_value-decimal, decimal_nonempty}
 use Rattle.std.proofs.lemmas.Bool.{or_cases, or_right}
 use Rattle.std.proofs.lemmas.Str.Parse.{IsNumeralModel, IsDigitsTest, FoldsDigits, numerals_by_fold}
 use Rattle.parser.specs.Words.{starts_with_zero}

@@ -1,13 +1,183 @@
--- What a line says that is accepted, other than a layout line, and that it is accepted.
-use Rattle.parser.proofs.Names.{Bool, List, None, Option, Some, [], ap, false, inl, inr, length, nat_lt, refl, subst}
-use Rattle.parser.proofs.Names.{sym, true, ℕ, ◌*◌, ◌++◌, ◌+◌, ◌∙◌, ◌∷◌, ◌≡◌, ◌≤◌, ◌⊎◌, decimal, repeat, Ok, codes}
-use Rattle.parser.proofs.Names.{not, ◌&&◌, ◌==◌, bytes_eq, Actor, Thread, Worker, config_of, ReadSoFar, is_full}
-use Rattle.parser.proofs.Names.{is_idle, nothing, with_command, line_in, IsCommand, SpellsHeap, actor_word}
-use Rattle.parser.proofs.Names.{command_line_of, line_of, order_words, times_line_of, Sizes, MOST_LAYOUTS, Command}
-use Rattle.parser.proofs.Names.{MOST_COMMANDS, MOST_TURNS}
-use Rattle.parser.proofs.HeapLines.{IsSizes}
-use Rattle.parser.proofs.SaidSoFar.{Said}
-use Rattle.parser.proofs.TakenLines.{heap_taken, times_taken, end_taken, command_taken}
+-- A line that is spelled correctly, within all limits, is accepted.
+use Rattle.parser.proofs.Names.{Bool, List, None, Option, Some, [], ap, arith, false, length, nat_lt, refl, subst}
+use Rattle.parser.proofs.Names.{sym, true, ℕ, ◌*◌, ◌++◌, ◌+◌, ◌<◌, ◌^◌, ◌∙◌, ◌∷◌, ◌≡◌, ◌≤◌, le-ltb, lt-ltb, nat_tests}
+use Rattle.parser.proofs.Names.{bytes_eq-Decides, decimal, AllByRecursion, list_all, repeat, slice_split, Ok, codes}
+use Rattle.parser.proofs.Names.{◌==◌, bytes_eq, Layout, fits_page, Actor, Thread, Worker, config_of, ReadSoFar}
+use Rattle.parser.proofs.Names.{end_in, is_full, is_idle, line_after, nothing, times_in, with_command, command_line}
+use Rattle.parser.proofs.Names.{end_line, first_word, heap_line, later_line, layout_line, line_in, part_line}
+use Rattle.parser.proofs.Names.{times_line, IsActor, IsCommand, IsLayout, SpellsHeap, actor_word, command_line_of}
+use Rattle.parser.proofs.Names.{layout_line_of, line_of, order_words, size_words, times_line_of, is_digit, Sizes}
+use Rattle.parser.proofs.Names.{MOST_LAYOUTS, Command, MOST_COMMANDS, MOST_TURNS, inl, inr, ◌⊎◌, not, ◌&&◌}
+use Rattle.parser.proofs.Numbers.{decimal_digits, IsPlain, number_plain}
+use Rattle.parser.proofs.WordPlaces.{words_from, words_whole, space, cons_is, number_again, end_again}
+use Rattle.parser.proofs.ActorsAndOrders.{AreFew, order_again, actor_again}
+use Rattle.parser.proofs.HeapLines.{IsSizes, SpellsSizes, heap_again}
+use Rattle.parser.proofs.LayoutLines.{layout_again}
+use Rattle.parser.proofs.SaidSoFar.{first_words, few_actors, Said}
+use Rattle.parser.proofs.Plain.{words_split, actor_plain, order_plain, sizes_plain}
+
+-- a line of plain words has this first word and these after it
+pub record HasWords (line w : List ℕ) (ws : List (List ℕ)) : Type 0 where
+  pub all : words_from line 0 ≡ w ∷ ws
+  pub first : (first_word line).0 ≡ w
+  pub rest : words_from line (first_word line).1 ≡ ws
+
+pub words_are : (line w : List ℕ) (ws : List (List ℕ)) → line ≡ line_of (w ∷ ws) → IsPlain w → AllByRecursion IsPlain ws
+    → HasWords line w ws
+words_are line w ws is first rest =
+    let all : words_from line 0 ≡ w ∷ ws = words_whole line ∙ ap (slice_split space) is ∙ words_split w ws first rest in
+    let parts = cons_is (first_word line).0 w (words_from line (first_word line).1) ws (sym (first_words line) ∙ all) in
+    record { all = all; first = parts.0; rest = parts.1 }
+
+-- after the heap line
+pub record IsReady (z : Sizes) (r : ReadSoFar) : Type 0 where
+  pub sizes_is : r.sizes ≡ Some z
+  pub range : IsSizes z
+
+-- an actor's word isn't a keyword
+record IsNoLineWord (w : List ℕ) : Type 0 where
+  layout : bytes_eq w (codes "layout") ≡ false
+  times : bytes_eq w (codes "times") ≡ false
+  end : bytes_eq w (codes "end") ≡ false
+
+pub not_equal : (v w : List ℕ) → (v ≡ w → ⊥) → bytes_eq v w ≡ false
+not_equal v w h = by_test (bytes_eq v w) refl
+  where
+    by_test : (b : Bool) → bytes_eq v w ≡ b → bytes_eq v w ≡ false
+    by_test true e = absurd (h ((bytes_eq-Decides v w).0 e))
+    by_test false e = e
+
+pub tail_is : (b : ℕ) (v w : List ℕ) → b ∷ v ≡ b ∷ w → v ≡ w
+tail_is b v w e = cc
+
+-- digits follow an actor's letter
+no_digits : (n : ℕ) → n < 2 ^ 64 → decimal n ≡ codes "imes" → ⊥
+no_digits n h e = let digits : list_all is_digit (codes "imes") ≡ true =
+    ap (list_all is_digit) (sym e) ∙ decimal_digits n h in absurd cc
+
+no_line_word : (z : Sizes) (a : Actor) → AreFew z → IsActor (config_of z []) a → IsNoLineWord (actor_word a)
+no_line_word z (Thread t) few there = record {
+  layout = refl;
+  times = not_equal (actor_word (Thread t)) (codes "times")
+      (λ e. no_digits t (omega (arith, few.threads.1, there)) (tail_is 116 (decimal t) (codes "imes") e));
+  end = refl;
+}
+no_line_word z (Worker w) few there = record { layout = refl; times = refl; end = refl }
+
+said_line : (r : ReadSoFar) (z : Sizes) (line : List ℕ) → is_idle line ≡ false → r.sizes ≡ Some z
+    → line_in r line ≡ later_line r z line
+unfolding line_in
+said_line r z line idle sizes_is = rw idle (ap (λ (o : Option Sizes). line_after r o line) sizes_is)
+
+-- after the layout lines, if the line's first word is no layout line's
+part_taken : (z : Sizes) (r : ReadSoFar) (line w : List ℕ) → IsReady z r → 1 ≤ length r.layouts → is_idle line ≡ false
+    → (first_word line).0 ≡ w → bytes_eq w (codes "layout") ≡ false → line_in r line ≡ part_line r z line
+unfolding later_line
+part_taken z r line w ready some idle first no_layout =
+    let layout : bytes_eq (first_word line).0 (codes "layout") ≡ false =
+    ap (λ (x : List ℕ). bytes_eq x (codes "layout")) first ∙ no_layout in
+    let layouts : (length r.layouts == 0) ≡ false = grind (arith, nat_tests) in
+    said_line r z line idle ready.sizes_is ∙ rw (layout, layouts) refl
+
+command_line_taken : (z : Sizes) (r : ReadSoFar) (line : List ℕ) (w : List ℕ) → (first_word line).0 ≡ w
+    → IsNoLineWord w → part_line r z line ≡ command_line r z line
+unfolding part_line
+command_line_taken z r line w first other =
+    let times : bytes_eq (first_word line).0 (codes "times") ≡ false =
+    ap (λ (x : List ℕ). bytes_eq x (codes "times")) first ∙ other.times in
+    let end : bytes_eq (first_word line).0 (codes "end") ≡ false = ap (λ (x : List ℕ). bytes_eq x (codes "end")) first
+    ∙ other.end in
+    rw (times, end) refl
+
+pub command_taken : (z : Sizes) (r : ReadSoFar) (c : Command) (line : List ℕ) (o : Option ℕ)
+    → IsReady z r → 1 ≤ length r.layouts → r.turns ≡ o → is_full o r.commands ≡ false → IsCommand (config_of z []) c
+    → is_idle line ≡ false → line ≡ command_line_of c → line_in r line ≡ Ok (with_command r o c)
+unfolding command_line
+command_taken z r c line o ready some turns room h idle is =
+    let few = few_actors z ready.range in
+    let words = words_are line (actor_word c.actor) (order_words c.order) is (actor_plain z c.actor few h.actor)
+    (order_plain z c.order few h.order) in
+    let other = no_line_word z c.actor few h.actor in
+    let free : is_full r.turns r.commands ≡ false = ap (λ (x : Option ℕ). is_full x r.commands) turns ∙ room in
+    let actor = actor_again z line c.actor (order_words c.order) few h.actor words.all in
+    let order = order_again z line c.actor actor.0 c.order few h.own h.order actor.2 in
+    let added : command_line r z line ≡ Ok (with_command r r.turns c) = rw (actor.1, free, order) refl in
+    part_taken z r line (actor_word c.actor) ready some idle words.first other.layout
+    ∙ command_line_taken z r line (actor_word c.actor) words.first other
+    ∙ added
+    ∙ ap (λ (x : Option ℕ). Ok (with_command r x c)) turns
+
+pub times_taken : (z : Sizes) (r : ReadSoFar) (n : ℕ) (line : List ℕ) → IsReady z r
+    → 1 ≤ length r.layouts → r.turns ≡ None → 1 ≤ n → n ≤ MOST_TURNS → is_idle line ≡ false → line ≡ times_line_of n
+    → line_in r line ≡ Ok (record r { begun = true; turns = Some n; body = [] })
+unfolding part_line times_line
+times_taken z r n line ready some none low high idle is =
+    let words = words_are line (codes "times") (decimal n ∷ []) is refl (number_plain n (omega (arith, high)), tt) in
+    let times : bytes_eq (first_word line).0 (codes "times") ≡ true =
+    ap (λ (w : List ℕ). bytes_eq w (codes "times")) words.first in
+    let number = number_again line (first_word line).1 1 MOST_TURNS n [] (omega (arith, high)) low high words.rest in
+    let e = end_again line number.0 number.2 in
+    let here : part_line r z line ≡ times_in r r.turns line = rw times refl in
+    let read : times_in r None line ≡ Ok (record r { begun = true; turns = Some n; body = [] }) =
+    rw (number.1, e) refl in
+    part_taken z r line (codes "times") ready some idle words.first refl ∙ here
+    ∙ ap (λ (x : Option ℕ). times_in r x line) none ∙ read
+
+pub end_taken : (z : Sizes) (r : ReadSoFar) (n : ℕ) (line : List ℕ) → IsReady z r → 1 ≤ length r.layouts
+    → r.turns ≡ Some n → length r.commands + n * length r.body ≤ MOST_COMMANDS → is_idle line ≡ false
+    → line ≡ codes "end" → line_in r line ≡ Ok
+    (record r { commands = r.commands ++ repeat n r.body; turns = None; body = [] })
+unfolding part_line end_line
+end_taken z r n line ready some block room idle is =
+    let words = words_are line (codes "end") [] is refl tt in
+    let times : bytes_eq (first_word line).0 (codes "times") ≡ false =
+    ap (λ (w : List ℕ). bytes_eq w (codes "times")) words.first in
+    let end : bytes_eq (first_word line).0 (codes "end") ≡ true =
+    ap (λ (w : List ℕ). bytes_eq w (codes "end")) words.first in
+    let fits : nat_lt MOST_COMMANDS (length r.commands + n * length r.body) ≡ false =
+    le-ltb MOST_COMMANDS (length r.commands + n * length r.body) room in
+    let e = end_again line (first_word line).1 words.rest in
+    let here : part_line r z line ≡ end_in r r.turns line = rw (times, end) refl in
+    let read :
+    end_in r (Some n) line ≡ Ok (record r { commands = r.commands ++ repeat n r.body; turns = None; body = [] }) =
+    rw (fits, e) refl in
+    part_taken z r line (codes "end") ready some idle words.first refl ∙ here
+    ∙ ap (λ (x : Option ℕ). end_in r x line) block ∙ read
+
+pub layout_taken : (z : Sizes) (r : ReadSoFar) (l : Layout) (line : List ℕ) → IsReady z r → r.begun ≡ false
+    → length r.layouts < MOST_LAYOUTS → IsLayout l → fits_page z.words l ≡ true → is_idle line ≡ false
+    → line ≡ layout_line_of l → line_in r line ≡ Ok (record r { layouts = r.layouts ++ l ∷ [] })
+unfolding later_line layout_line
+layout_taken z r l line ready not_begun few h room idle is =
+    let refs = h.refs in
+    let nums = h.nums in
+    let words = words_are line (codes "layout") (decimal l.refs ∷ decimal l.nums ∷ []) is refl
+    (number_plain l.refs (omega arith), (number_plain l.nums (omega arith), tt)) in
+    let layout : bytes_eq (first_word line).0 (codes "layout") ≡ true =
+    ap (λ (w : List ℕ). bytes_eq w (codes "layout")) words.first in
+    let below : nat_lt (length r.layouts) MOST_LAYOUTS ≡ true = lt-ltb (length r.layouts) MOST_LAYOUTS few in
+    let size : 1 + l.refs + l.nums ≤ z.words = grind (arith, nat_tests) in
+    let read = layout_again z line (first_word line).1 l (record { spelled = words.rest; is = h; room = size }) in
+    said_line r z line idle ready.sizes_is ∙ rw (layout, not_begun, below, read) refl
+
+pub heap_taken : (z : Sizes) (line : List ℕ) → IsSizes z → SpellsHeap line (config_of z []) → is_idle line ≡ false →
+    line_in nothing line ≡ Ok (record nothing { sizes = Some z })
+unfolding line_in heap_line
+heap_taken z line range h idle =
+    let sizes : SpellsSizes z (size_words (config_of z []) ++ h.births ++ h.history) = record {
+      births = h.births;
+      history = h.history;
+      births_spelled = h.births_spelled;
+      history_spelled = h.history_spelled;
+      words_are = refl;
+      range = range;
+    } in
+    let words = words_are line (codes "heap") (size_words (config_of z []) ++ h.births ++ h.history) h.line_is refl
+    (sizes_plain z _ sizes) in
+    let first : bytes_eq (first_word line).0 (codes "heap") ≡ true =
+    ap (λ (w : List ℕ). bytes_eq w (codes "heap")) words.first in
+    let read = heap_again line (first_word line).1 z (subst (SpellsSizes z) (sym words.rest) sizes) in
+    rw (idle, first, read) refl
 
 -- a heap line gives the sizes
 pub record IsHeapLine (r u : ReadSoFar) (line : List ℕ) : Type 0 where

@@ -10,10 +10,8 @@ use Rattle.parser.proofs.Lists.{HasNoNewlines, all_weaker, all_both, all_from, a
 use Rattle.parser.proofs.ManyNumbers.{AreSmall}
 use Rattle.parser.proofs.Addresses.{address_plain}
 use Rattle.parser.proofs.Numbers.{IsPlain, number_plain}
-use Rattle.parser.proofs.Places.{space}
-use Rattle.parser.proofs.WordPlaces.{HasNoSpace}
-use Rattle.parser.proofs.Operands.{AreFew, bounds_in}
-use Rattle.parser.proofs.ActorsAndOrders.{text_plain}
+use Rattle.parser.proofs.WordPlaces.{space, HasNoSpace}
+use Rattle.parser.proofs.ActorsAndOrders.{AreFew, bounds_in, text_plain}
 use Rattle.parser.proofs.HeapLines.{SpellsSizes}
 
 pub no_spaces : (w : List ℕ) → IsPlain w → AllByRecursion (λ b. space b ≡ false) w

@@ -3,12 +3,11 @@ use Rattle.parser.proofs.Names.{List, None, Option, Some, ap, subst, sym, ℕ, �
 use Rattle.parser.proofs.Names.{Result, ScriptValue, newline, script_in, IsReadOf, ParsedScript, IsScript, Spells}
 use Rattle.parser.proofs.Names.{IsFirstSpot, first_spot, spots_in, LineFault, ParseFault, Sought, Spots}
 use Rattle.std.proofs.Common.{IfSome}
-use Rattle.parser.specs.declared.spots.Sought.TheVariants as sought
 use Rattle.parser.specs.Scripts.{IsParsed, script_alone}
 use Rattle.parser.proofs.ScriptIsSpelled.{read_is_spelled}
 use Rattle.parser.proofs.SpelledIsRead.{spelled_is_read}
-use Rattle.parser.proofs.SpotPlaces.{spot_stands}
-use Rattle.parser.proofs.SpotTexts.{text_sought}
+use Rattle.parser.proofs.SpotPlaces.{spot_stands, text_sought}
+use Rattle.parser.specs.declared.spots.Sought.TheVariants as sought
 
 -- what is read is within all limits
 pub read_valid : (bytes : List ℕ) (s : ScriptValue) → script_in bytes ≡ Ok s → IsScript s

@@ -5,9 +5,8 @@ use Rattle.parser.proofs.Names.{page_size_range, fits_page, config_of, ReadSoFar
 use Rattle.parser.proofs.Names.{IsCommand, IsLayout, IsPart, Part, SpellsHeap, layout_line_of, line_of, part_commands}
 use Rattle.parser.proofs.Names.{part_lines, word_at, Sizes, MOST_COMMANDS}
 use Rattle.parser.proofs.Lists.{split_cons}
-use Rattle.parser.proofs.Places.{words_from, word_is, no_word_is, words_whole}
-use Rattle.parser.proofs.Operands.{AreFew}
-use Rattle.parser.proofs.ActorsAndOrders.{line_is}
+use Rattle.parser.proofs.WordPlaces.{words_from, word_is, no_word_is, words_whole}
+use Rattle.parser.proofs.ActorsAndOrders.{AreFew, line_is}
 use Rattle.parser.proofs.HeapLines.{IsSizes}
 use Rattle.parser.proofs.Parts.{open_lines, HasTurns}
 

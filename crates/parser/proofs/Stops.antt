@@ -5,7 +5,6 @@ use Rattle.parser.proofs.Names.{slice_split-cons_yes, slice_split_at, AllByRecur
 use Rattle.parser.proofs.Names.{Ok, Result, ◌==◌, BeginsScript, IsWordEnd, byte_behind, text_of, ReadSoFar}
 use Rattle.parser.proofs.Names.{ScriptValue, goes_on, in_line, newline, nothing, finished, last_line, line_in}
 use Rattle.parser.proofs.Names.{lines_in, script_in, IsScript, Spells, Flaw, LineFault}
-use Rattle.parser.specs.declared.fault.FaultKind.TheVariants as kinds
 use Rattle.parser.proofs.Lists.{IsCons, split_cons, HasNoNewlines, all_front, all_push}
 use Rattle.parser.proofs.Lines.{lines_cons}
 use Rattle.parser.proofs.ScriptIsSpelled.{pick_false, never}
@@ -14,6 +13,7 @@ use Rattle.parser.proofs.Plain.{none_ends}
 use Rattle.parser.proofs.Alike.{alike_spaced}
 use Rattle.parser.proofs.LineTrees.{line_same}
 use Rattle.parser.proofs.SpelledIsRead.{Leads, spelled_is_read}
+use Rattle.parser.specs.declared.fault.FaultKind.TheVariants as kinds
 
 cons_behind : (lines more : List (List ℕ)) → IsCons more → IsCons (lines ++ more)
 cons_behind [] more h = h

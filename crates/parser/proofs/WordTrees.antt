@@ -2,20 +2,17 @@
 use Rattle.parser.proofs.Names.{Bool, List, None, Option, Some, [], ap, append-nil, arith, cond, false, inl, inr}
 use Rattle.parser.proofs.Names.{length, nat_lt, refl, subst, sym, true, ℕ, ◌++◌, ◌<◌, ◌^◌, ◌∙◌, ◌∷◌, ◌≡◌, ◌≤◌}
 use Rattle.parser.proofs.Names.{cases_lt, not-false, or_parts, Decides-eqb, nat_tests, bytes_eq-Decides, decimal, Err}
-use Rattle.parser.proofs.Names.{Ok, Result, nat_le, not, ◌==◌, ◌||◌, bytes_eq, IsWrongWord, address_word, address_in}
-use Rattle.parser.proofs.Names.{address_number, flaw, in_range, named_in, offset_in, or_flaw, page_in, ◌>>=◌}
-use Rattle.parser.proofs.Names.{address_at, capped_from, end_at, fixed_at, is_number, named_at, number_at}
-use Rattle.parser.proofs.Names.{point_parts, word_at, word_or, FaultKind, Flaw}
+use Rattle.parser.proofs.Names.{Ok, Result, nat_le, not, ◌==◌, ◌||◌, bytes_eq, IsWrongWord}
+use Rattle.parser.proofs.Names.{flaw, in_range, named_in, or_flaw, ◌>>=◌}
+use Rattle.parser.proofs.Names.{capped_from, end_at, fixed_at, is_number, named_at, number_at}
+use Rattle.parser.proofs.Names.{word_at, word_or, FaultKind, Flaw}
 use Rattle.std.proofs.lemmas.Bool.{leb-false}
-use Rattle.parser.specs.declared.fault.FaultKind.TheVariants as kinds
 use Rattle.parser.proofs.Numbers.{number_spelled, IsPlain, number_plain}
-use Rattle.parser.proofs.Places.{past_end, fixed_again, number_again, named_again}
-use Rattle.parser.proofs.Addresses.{parts_are, page_again, offset_again, address_again, address_plain}
-use Rattle.parser.proofs.WordPlaces.{finds_word, none_past}
-use Rattle.parser.proofs.Trees.{IsReadBy, run_ok}
-use Rattle.parser.proofs.Trees.{Tree, Done, Fail, Look, Skip, word_in, place_in, behind_in, run, Starts, Lives, IsSound}
-use Rattle.parser.proofs.Trees.{EndsAt, ends_chain, ends_map, IsGood, chain, good_chain, run_chain, bind_same}
-use Rattle.parser.proofs.Trees.{Words, Sense, Rest, Seen}
+use Rattle.parser.proofs.WordPlaces.{past_end, fixed_again, number_again, named_again, finds_word, none_past}
+use Rattle.parser.proofs.Trees.{IsReadBy, run_ok, Tree, Done, Fail, Look, Skip, word_in, place_in, behind_in, run}
+use Rattle.parser.proofs.Trees.{Starts, Lives, IsSound, EndsAt, ends_chain, ends_map, IsGood, chain, good_chain}
+use Rattle.parser.proofs.Trees.{run_chain, bind_same, Words, Sense, Rest, Seen}
+use Rattle.parser.specs.declared.fault.FaultKind.TheVariants as kinds
 
 -- ---- one word
 
@@ -351,83 +348,6 @@ named_good letter count missing some fits plain absent = record {
   sound = λ c. word_sound Any (IsNameIn letter count) false c kinds.UnknownWord _ (λ front. tt) (λ w.
       name_sound Any (IsNameIn letter count) false letter count missing (λ n. Skip (Done n)) fits absent w
       (λ n is. past_sound Any (IsNameIn letter count) false w n is));
-}
-
--- ---- addresses
-
-abbrev pub parts_in : ℕ → Option (List ℕ × List ℕ) → Tree ℕ
-parts_in words None = Fail kinds.UnknownWord
-parts_in words (Some parts) = cond (not (is_number parts.0) || not (is_number parts.1)) (Fail kinds.UnknownWord)
-    (cond (nat_le (2 ^ 32) (capped_from 0 parts.0) || nat_le words (capped_from 0 parts.1)) (Fail kinds.NumberOutOfRange)
-    (Skip (Done (address_number (capped_from 0 parts.0) (capped_from 0 parts.1)))))
-
-abbrev pub address_tree : ℕ → Tree ℕ
-address_tree words = word_tree kinds.UnknownWord (λ w. parts_in words (point_parts w))
-
-pub address_run : (line : List ℕ) (at words : ℕ) → run (address_tree words) line at ≡ address_at line at words
-unfolding address_at
-address_run line at words =
-    word_run line at kinds.UnknownWord _ _ (λ w e. by_parts w e (point_parts w.0))
-  where
-    by_parts : (w : List ℕ × ℕ) → word_at line at ≡ Some w → (o : Option (List ℕ × List ℕ))
-        → run (parts_in words o) line at
-        ≡ (or_flaw o (flaw at kinds.UnknownWord) >>= (λ parts. address_in parts w.1 at words))
-    by_parts w e None = fail_run {A = ℕ} line at kinds.UnknownWord w e
-    by_parts w e (Some parts) =
-        run_pick line at (not (is_number parts.0) || not (is_number parts.1)) (Fail kinds.UnknownWord) _ _ _
-        (fail_run {A = ℕ} line at kinds.UnknownWord w e)
-        (run_pick line at (nat_le (2 ^ 32) (capped_from 0 parts.0) || nat_le words (capped_from 0 parts.1))
-        (Fail kinds.NumberOutOfRange) _ _ _ (fail_run {A = ℕ} line at kinds.NumberOutOfRange w e)
-        (past_run line at (address_number (capped_from 0 parts.0) (capped_from 0 parts.1)) w e))
-
--- an address with an offset below a number of words, and its word
-pub record IsAddressIn (words n : ℕ) (ws : Words) : Type 0 where
-  pub words_are : ws ≡ address_word (page_in n) (offset_in n) ∷ []
-  pub fits : n < 2 ^ 64
-  pub within : offset_in n < words
-
-parts_sound : (words : ℕ) (w : List ℕ) → words ≤ 2 ^ 32 → (o : Option (List ℕ × List ℕ)) → point_parts w ≡ o
-    → IsSound Any (IsAddressIn words) false (Some (Some w)) (parts_in words o)
-parts_sound words w few None e = λ front start. tt
-parts_sound words w few (Some parts) e =
-    let a = capped_from 0 parts.0 in
-    let b = capped_from 0 parts.1 in
-    let p = not (is_number parts.0) in
-    let q = not (is_number parts.1) in
-    let pick = sound_pick Any (IsAddressIn words) false (Some (Some w)) in
-    pick (p || q) (Fail kinds.UnknownWord) _ (λ d front start. tt) (λ d.
-    let sides = or_parts p q d in
-    let page = not-false (is_number parts.0) sides.0 in
-    let offset = not-false (is_number parts.1) sides.1 in
-    pick (nat_le (2 ^ 32) a || nat_le words b) (Fail kinds.NumberOutOfRange) (Skip (Done (address_number a b)))
-    (λ l front start. inr (parts.0, (parts.1, (parts_are w parts e, (page, offset))))) (λ l.
-    let bounds = or_parts (nat_le (2 ^ 32) a) (nat_le words b) l in
-    let page_below : a < 2 ^ 32 = leb-false (2 ^ 32) a bounds.0 in
-    let offset_below : b < words = leb-false words b bounds.1 in
-    let offset_is = offset_again a b (omega arith) in
-    past_sound Any (IsAddressIn words) false w (address_number a b) (record {
-      words_are = rw (
-        page_again a b (omega arith),
-        offset_is,
-        number_spelled parts.0 page (omega arith),
-        number_spelled parts.1 offset (omega arith),
-      ) (ap (λ (x : List ℕ). x ∷ []) (parts_are w parts e));
-      fits = omega arith;
-      within = rw offset_is offset_below;
-    })))
-
-pub address_good : (words : ℕ) → 1 ≤ words → words ≤ 2 ^ 32 → IsGood Any (IsAddressIn words) (address_tree words)
-address_good words some few = record {
-  lives = record {
-    words = address_word (page_in 0) (offset_in 0) ∷ [];
-    plain = (address_plain 0 (omega arith), tt);
-    value = 0;
-    is = record { words_are = refl; fits = omega arith; within = some };
-    reads = λ line at rest may e. let a = address_again line at words 0 rest (omega arith) some e in
-        (a.0, address_run line at words ∙ a.1, a.2);
-  };
-  sound = λ c. word_sound Any (IsAddressIn words) false c kinds.UnknownWord _ (λ front. tt)
-      (λ w. parts_sound words w few (point_parts w) refl);
 }
 
 -- ---- the end
