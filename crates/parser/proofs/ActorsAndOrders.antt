@@ -10,9 +10,8 @@ use Rattle.parser.proofs.Names.{verb_of, Verb}
 use Rattle.parser.specs.Spelling.{Bounds, bounds_of}
 use Rattle.parser.proofs.WordPlaces.{words_from, Reads, number_again, small_again, named_again, words_whole}
 use Rattle.parser.proofs.WordPlaces.{word_again, end_again}
-use Rattle.parser.proofs.Addresses.{address_again}
+use Rattle.parser.proofs.ManyNumbers.{address_again, numbers_again}
 use Rattle.parser.proofs.Lists.{all_to}
-use Rattle.parser.proofs.ManyNumbers.{numbers_again}
 use Rattle.std.specs.Prelude.{find}
 use Rattle.parser.specs.declared.verbs.TheConstants.{VERBS}
 use Rattle.parser.specs.Orders.{done_by}

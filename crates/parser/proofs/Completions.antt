@@ -10,15 +10,13 @@ use Rattle.parser.proofs.Names.{with_newline, Sizes, MOST_COMMANDS}
 use Rattle.parser.specs.Faults.{EndInBlock}
 use Rattle.parser.proofs.HeapLines.{IsSizes}
 use Rattle.parser.proofs.Numbers.{number_plain}
-use Rattle.parser.proofs.Plain.{no_newlines, words_no_newlines, sizes_plain, lines_split}
-use Rattle.parser.proofs.Ranges.{AreLayouts, config_in_range}
-use Rattle.parser.proofs.Lists.{HasNoNewlines, all_both, all_push, all_from, lines_from, told, filter_told}
-use Rattle.parser.proofs.Parts.{HasTurns, say_end, more_commands, all_repeated}
+use Rattle.parser.proofs.Plain.{no_newlines, words_no_newlines, sizes_plain, lines_split, AreLayouts, config_in_range}
+use Rattle.parser.proofs.Lists.{HasNoNewlines, all_both, all_push, all_from, lines_from, told, filter_told, HasTurns}
+use Rattle.parser.proofs.Lists.{say_end, more_commands, all_repeated}
 use Rattle.parser.proofs.ScriptIsSpelled.{line_ok, read_is_spelled, all_said, commands_with}
-use Rattle.parser.proofs.SaidSoFar.{IsBehind, Said, some_layouts}
+use Rattle.parser.proofs.OtherLines.{IsBehind, Said, some_layouts, IsReady, layout_taken, heap_taken}
 use Rattle.parser.specs.Reading.{script_in, lines_in}
 use Rattle.parser.proofs.SpelledIsRead.{Leads, leads_both, leads_read, end_read}
-use Rattle.parser.proofs.OtherLines.{IsReady, layout_taken, heap_taken}
 
 -- ---- lines that spell a script
 

@@ -13,17 +13,15 @@ use Rattle.parser.proofs.Lists.{split_cons, all_from, all_both, all_weaker, HasN
 use Rattle.parser.proofs.Lists.{all_front, split_lines, lines_from}
 use Rattle.parser.proofs.Numbers.{IsPlain}
 use Rattle.parser.proofs.WordPlaces.{space, words_from, words_inside, words_whole, word_is, found_word, cons_is}
-use Rattle.parser.proofs.WordPlaces.{past_end, HasNoSpace}
+use Rattle.parser.proofs.WordPlaces.{past_end, HasNoSpace, IsFaultAt, no_bytes}
 use Rattle.parser.proofs.ActorsAndOrders.{line_is, first_is}
-use Rattle.parser.proofs.OtherLines.{not_equal, is_layout_next, other_accepted}
-use Rattle.parser.proofs.Alike.{IsFaultAt, no_bytes}
+use Rattle.parser.proofs.OtherLines.{not_equal, is_layout_next, other_accepted, IsBehind, Said, some_layouts}
 use Rattle.parser.proofs.Trees.{IsTail, IsClean, Mends, word_in, run_mends, run_ok, Words}
 use Rattle.parser.proofs.LineTrees.{line_step, fault_of}
 use Rattle.parser.proofs.LineFaults.{Ends, Says, line_sound, fault_placed}
 use Rattle.parser.proofs.Completions.{taken_have_none, all_leads_said, open_ends, not_started}
 use Rattle.parser.proofs.SpelledIsRead.{Leads, leads_both, spelled_is_read}
 use Rattle.parser.proofs.Plain.{no_spaces, no_newlines, line_no_newlines, spaced_split}
-use Rattle.parser.proofs.SaidSoFar.{IsBehind, Said, some_layouts}
 use Rattle.parser.proofs.Stops.{IsWrong, IsMissing, IsUnended, StopsAt, stops, never_begins}
 use Rattle.parser.specs.declared.fault.FaultKind.TheVariants as kinds
 use Rattle.parser.specs.declared.fault.ParseFault.TheVariants as faults

@@ -6,16 +6,14 @@ use Rattle.parser.proofs.Names.{codes, nat_le, not, ◌&&◌, ◌==◌, ◌||◌
 use Rattle.parser.proofs.Names.{Worker, config_of, first_byte, ReadSoFar, first_word_in, is_full, line_after, nothing}
 use Rattle.parser.proofs.Names.{with_command, first_word, line_in, IsActor, actor_word, line_of, order_words}
 use Rattle.parser.proofs.Names.{capped_from, is_number, Flaw, Sizes, MOST_LAYOUTS, MOST_COMMANDS, MOST_TURNS}
-use Rattle.parser.proofs.WordPlaces.{words_from, finds_word}
+use Rattle.parser.proofs.WordPlaces.{words_from, finds_word, IsFaultAt}
 use Rattle.parser.proofs.ActorsAndOrders.{line_is}
-use Rattle.parser.proofs.Alike.{IsFaultAt}
 use Rattle.parser.proofs.HeapLines.{heap_ends, IsSizes, SpellsSizes, heap_tree, heap_good}
 use Rattle.parser.proofs.LayoutLines.{layout_tree, layout_good}
 use Rattle.parser.proofs.LineTrees.{line_run, heap_step, layout_step, times_step, end_step, order_step, command_step}
 use Rattle.parser.proofs.LineTrees.{line_step, fault_of, later_step}
 use Rattle.parser.proofs.OrderTrees.{verb_tree, operands_tree, IsOrderOf, order_tree, order_good}
-use Rattle.parser.proofs.SaidSoFar.{Said, few_actors, some_layouts}
-use Rattle.parser.proofs.OtherLines.{IsOtherLine, is_layout_next}
+use Rattle.parser.proofs.OtherLines.{Said, few_actors, some_layouts, IsOtherLine, is_layout_next}
 use Rattle.parser.proofs.Trees.{EndsAt, ends_chain, ends_map, run, run_ok, run_end, Tree, Done, Fail, Skip, word_in}
 use Rattle.parser.proofs.Trees.{chain, IsSound, IsGood, run_wrong, Words, Sense, Rest, Seen}
 use Rattle.parser.proofs.WordTrees.{sound_pick, Any, IsLast, good_map, narrower, name_in, name_sound, number_tree}

@@ -7,13 +7,12 @@ use Rattle.parser.proofs.Names.{line_after, times_in, with_command, command_line
 use Rattle.parser.proofs.Names.{later_line, layout_line, line_in, part_line, times_line, flaw, ◌>>=◌, end_at}
 use Rattle.parser.proofs.Names.{named_at, number_at, word_at, FaultKind, Flaw, Sizes, MOST_LAYOUTS, Order}
 use Rattle.parser.proofs.Names.{MOST_COMMANDS, MOST_TURNS}
-use Rattle.parser.proofs.Alike.{AreAlike, no_bytes}
+use Rattle.parser.proofs.WordPlaces.{AreAlike, no_bytes, IsWordAt, finds_word}
 use Rattle.parser.proofs.HeapLines.{heap_tree, heap_run}
 use Rattle.parser.proofs.LayoutLines.{layout_tree, layout_run}
 use Rattle.parser.proofs.OrderTrees.{order_tree, order_run}
 use Rattle.parser.proofs.Trees.{Tree, Done, Fail, Skip, word_in, behind_in, run, chain, IsLate, bind_same, run_same}
 use Rattle.parser.proofs.Trees.{found_is}
-use Rattle.parser.proofs.WordPlaces.{IsWordAt, finds_word}
 use Rattle.parser.proofs.WordTrees.{bind_assoc, bind_ok_is, fail_run, or_missing, name_in, named_or_run, number_tree}
 use Rattle.parser.proofs.WordTrees.{number_run, end_tree, end_run, values, values_chain, whole_tree, whole_run}
 use Rattle.parser.specs.declared.fault.FaultKind.TheVariants as kinds

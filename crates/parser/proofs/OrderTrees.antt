@@ -6,22 +6,21 @@ use Rattle.parser.proofs.Names.{◌≡◌, cases_lt, decimal, Ok, Result, map, A
 use Rattle.parser.proofs.Names.{order_of, verb_in, numbers_by, operand_at, operands_at, order_at, register_at}
 use Rattle.parser.proofs.Names.{AreMore, IsFor, IsOperand, IsOrder, operand_word, operand_words, order_words, row_of}
 use Rattle.parser.proofs.Names.{flaw, or_flaw, ◌>>=◌, small_at, word_at, word_or, Flaw, Sizes, Order, Kind, Address}
-use Rattle.parser.proofs.Names.{Long, Nothing, Number, Percent, Register, ThreadName, Verb}
-use Rattle.parser.proofs.Names.{not-false, or_parts, nat_le}
-use Rattle.parser.proofs.Names.{◌||◌, address_number}
+use Rattle.parser.proofs.Names.{Long, Nothing, Number, Percent, Register, ThreadName, Verb, not-false, or_parts}
+use Rattle.parser.proofs.Names.{nat_le, ◌||◌, address_number}
 use Rattle.parser.proofs.WordTrees.{run_pick, word_sound, Any, IsLast, word_tree, word_run, fail_run, past_run}
 use Rattle.parser.proofs.WordTrees.{done_good, past_sound, good_map, number_tree, number_run, number_good, IsNumberOf}
 use Rattle.parser.proofs.WordTrees.{named_tree, named_run, named_good, bind_assoc, weaker, values, values_chain}
 use Rattle.parser.proofs.WordTrees.{whole_tree, whole_run, whole_good, sound_pick}
 use Rattle.parser.proofs.Lists.{all_from}
 use Rattle.parser.proofs.WordPlaces.{past_end, word_again, finds_word, none_past}
-use Rattle.parser.proofs.ManyNumbers.{by_past, by_first, numbers_enough, AreSmall}
+use Rattle.parser.proofs.ManyNumbers.{by_past, by_first, numbers_enough, AreSmall, parts_are, page_again}
+use Rattle.parser.proofs.ManyNumbers.{offset_again, address_again, address_plain}
 use Rattle.parser.proofs.ActorsAndOrders.{AreFew, bounds_in, actor_verb, own_verb, text_plain}
 use Rattle.parser.proofs.Trees.{Done, Tree, Fail, Look, Skip, word_in, run, chain, chained, IsSound, IsGood}
 use Rattle.parser.proofs.Trees.{good_chain, bind_same, Words, Rest}
 use Rattle.std.proofs.lemmas.Bool.{leb-false}
 use Rattle.parser.proofs.Numbers.{number_spelled}
-use Rattle.parser.proofs.Addresses.{parts_are, page_again, offset_again, address_again, address_plain}
 use Rattle.parser.specs.declared.fault.FaultKind.TheVariants as kinds
 use Rattle.parser.specs.declared.verbs.Verb.TheVariants as verbs
 

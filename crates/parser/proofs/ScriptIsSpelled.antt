@@ -12,16 +12,15 @@ use Rattle.parser.proofs.Names.{closed, fault_at_start, goes_on, in_line, newlin
 use Rattle.parser.proofs.Names.{last_line, lines_in, script_in, IsScript, Spells, SpellsHeap, part_commands, Flaw}
 use Rattle.parser.proofs.Names.{LineFault}
 use Rattle.std.proofs.lemmas.Bool.{ltb-true, not-true}
-use Rattle.parser.proofs.OtherLines.{IsHeapLine, IsTimesLine, IsEndLine, IsOtherLine, is_layout_next}
+use Rattle.parser.proofs.OtherLines.{IsHeapLine, IsTimesLine, IsEndLine, IsOtherLine, is_layout_next, line_by_words}
+use Rattle.parser.proofs.OtherLines.{IsBehind, Said, some_layouts}
 use Rattle.parser.proofs.LineFaults.{line_says}
-use Rattle.parser.proofs.SaidSoFar.{line_by_words, IsBehind, Said, some_layouts}
 use Rattle.parser.proofs.WordPlaces.{bind_ok, test_ok, one_of}
 use Rattle.parser.proofs.LayoutLines.{layout_ok}
-use Rattle.parser.proofs.Parts.{open_lines, HasTurns, say_one, say_inside, say_times, say_end, more_commands}
-use Rattle.parser.proofs.Parts.{all_repeated, repeated_length}
-use Rattle.parser.proofs.Lists.{all_push, told, all_both, split_cons, all_front, filter_told, joined_lines}
-use Rattle.parser.proofs.Lists.{split_lines, all_from, lines_from, HasNoNewlines}
-use Rattle.parser.proofs.Ranges.{AreLayouts, config_in_range}
+use Rattle.parser.proofs.Lists.{open_lines, HasTurns, say_one, say_inside, say_times, say_end, more_commands}
+use Rattle.parser.proofs.Lists.{all_repeated, repeated_length, all_push, told, all_both, split_cons, all_front}
+use Rattle.parser.proofs.Lists.{filter_told, joined_lines, split_lines, all_from, lines_from, HasNoNewlines}
+use Rattle.parser.proofs.Plain.{AreLayouts, config_in_range}
 use Rattle.parser.specs.declared.fault.FaultKind.TheVariants as kinds
 
 heap_step : (r t : ReadSoFar) (line : List ℕ) → IsHeapLine r t line → IsBehind (line ∷ []) t

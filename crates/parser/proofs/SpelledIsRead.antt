@@ -9,14 +9,13 @@ use Rattle.parser.proofs.Names.{IsActor, IsCommand, IsLayout, IsPart, IsScript, 
 use Rattle.parser.proofs.Names.{command_line_of, layout_line_of, order_words, part_commands, part_lines}
 use Rattle.parser.proofs.Names.{says_something, times_line_of, Sizes, MOST_LAYOUTS, Command, MOST_COMMANDS}
 use Rattle.parser.proofs.Names.{MOST_TURNS}
-use Rattle.parser.proofs.Lists.{all_back, IsCons, filter_told, all_to, all_front, lines_to}
+use Rattle.parser.proofs.Lists.{all_back, IsCons, filter_told, all_to, all_front, lines_to, repeated_length}
+use Rattle.parser.proofs.Lists.{all_of_repeated}
 use Rattle.parser.proofs.HeapLines.{IsSizes}
-use Rattle.parser.proofs.Ranges.{sizes_in, config_tells}
+use Rattle.parser.proofs.Plain.{sizes_in, config_tells, lines_split}
 use Rattle.parser.proofs.Lines.{lines_cons}
 use Rattle.parser.proofs.OtherLines.{actor_idle, IsReady, command_taken, times_taken, end_taken, layout_taken}
 use Rattle.parser.proofs.OtherLines.{heap_taken}
-use Rattle.parser.proofs.Parts.{repeated_length, all_of_repeated}
-use Rattle.parser.proofs.Plain.{lines_split}
 
 -- ---- all lines
 

@@ -16,17 +16,14 @@ use Rattle.parser.specs.Orders.{then_of, then_with, is_cycles, is_raced}
 use Rattle.parser.specs.Spots.{is_cycle_word, SpellsNone}
 use Rattle.parser.proofs.WordPlaces.{found_word, word_place}
 use Rattle.parser.proofs.ActorsAndOrders.{AreFew, first_is}
-use Rattle.parser.proofs.Plain.{actor_plain, order_plain, lines_split, no_spaces}
-use Rattle.parser.proofs.OtherLines.{HasWords, words_are, not_equal, tail_is}
+use Rattle.parser.proofs.Plain.{actor_plain, order_plain, lines_split, no_spaces, sizes_in, config_tells}
+use Rattle.parser.proofs.OtherLines.{HasWords, words_are, not_equal, tail_is, few_actors}
 use Rattle.std.specs.List.{list_any}
 use Rattle.std.proofs.lemmas.List.Folds.{list_any-append}
 use Rattle.std.proofs.lemmas.Map.Views.{any-filter_same}
 use Rattle.parser.proofs.FirstSpots.{first_from, spot_is, passed, met, no_line, one_line}
 use Rattle.parser.proofs.Lists.{all_back, all_to, all_front, lines_to, HasNoNewlines, all_from, all_weaker, all_both}
-use Rattle.parser.proofs.Lists.{lines_from}
-use Rattle.parser.proofs.Parts.{all_of_repeated}
-use Rattle.parser.proofs.Ranges.{sizes_in, config_tells}
-use Rattle.parser.proofs.SaidSoFar.{few_actors}
+use Rattle.parser.proofs.Lists.{lines_from, all_of_repeated}
 use Rattle.parser.proofs.SpelledIsRead.{commands_of}
 use Rattle.parser.specs.declared.spots.Sought.TheVariants as sought
 

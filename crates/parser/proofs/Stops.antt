@@ -10,7 +10,7 @@ use Rattle.parser.proofs.Lines.{lines_cons}
 use Rattle.parser.proofs.ScriptIsSpelled.{pick_false, never}
 use Rattle.std.proofs.lemmas.List.Splits.{slice_split-cons_no}
 use Rattle.parser.proofs.Plain.{none_ends}
-use Rattle.parser.proofs.Alike.{alike_spaced}
+use Rattle.parser.proofs.WordPlaces.{alike_spaced}
 use Rattle.parser.proofs.LineTrees.{line_same}
 use Rattle.parser.proofs.SpelledIsRead.{Leads, spelled_is_read}
 use Rattle.parser.specs.declared.fault.FaultKind.TheVariants as kinds

@@ -6,8 +6,8 @@ use Rattle.parser.proofs.Names.{word_at, FaultKind, Flaw}
 use Rattle.parser.proofs.Lists.{all_front, all_back, all_both, HasNoNewlines}
 use Rattle.parser.proofs.Numbers.{IsPlain}
 use Rattle.parser.proofs.WordPlaces.{words_from, word_is, found_word, no_word_is, Reads, HasNoSpace, IsBehindWord}
-use Rattle.parser.proofs.WordPlaces.{IsPlace, IsWordAt, finds_word, none_past, behind_word}
-use Rattle.parser.proofs.Alike.{AreAlike, IsFaultAt, word_inside, fault_at_word, fault_at_end, no_bytes}
+use Rattle.parser.proofs.WordPlaces.{IsPlace, IsWordAt, finds_word, none_past, behind_word, AreAlike, IsFaultAt}
+use Rattle.parser.proofs.WordPlaces.{word_inside, fault_at_word, fault_at_end, no_bytes}
 
 -- words of a line
 abbrev pub Words : Type 0

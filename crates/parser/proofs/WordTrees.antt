@@ -2,9 +2,8 @@
 use Rattle.parser.proofs.Names.{Bool, List, None, Option, Some, [], ap, append-nil, arith, cond, false, inl, inr}
 use Rattle.parser.proofs.Names.{length, nat_lt, refl, subst, sym, true, ℕ, ◌++◌, ◌<◌, ◌^◌, ◌∙◌, ◌∷◌, ◌≡◌, ◌≤◌}
 use Rattle.parser.proofs.Names.{cases_lt, not-false, or_parts, Decides-eqb, nat_tests, bytes_eq-Decides, decimal, Err}
-use Rattle.parser.proofs.Names.{Ok, Result, nat_le, not, ◌==◌, ◌||◌, bytes_eq, IsWrongWord}
-use Rattle.parser.proofs.Names.{flaw, in_range, named_in, or_flaw, ◌>>=◌}
-use Rattle.parser.proofs.Names.{capped_from, end_at, fixed_at, is_number, named_at, number_at}
+use Rattle.parser.proofs.Names.{Ok, Result, nat_le, not, ◌==◌, ◌||◌, bytes_eq, IsWrongWord, flaw, in_range, named_in}
+use Rattle.parser.proofs.Names.{or_flaw, ◌>>=◌, capped_from, end_at, fixed_at, is_number, named_at, number_at}
 use Rattle.parser.proofs.Names.{word_at, word_or, FaultKind, Flaw}
 use Rattle.std.proofs.lemmas.Bool.{leb-false}
 use Rattle.parser.proofs.Numbers.{number_spelled, IsPlain, number_plain}
