@@ -133,36 +133,13 @@ HasTurns (Some turns) = (1 ≤ turns) × (turns ≤ MOST_TURNS)
 
 -- ---- one line more
 
-behind_front : (front rest said after : List (List ℕ)) (line : List ℕ) → said ≡ front ++ rest
-    → rest ++ line ∷ [] ≡ after → said ++ line ∷ [] ≡ front ++ after
-behind_front front rest said after line h k = ap (λ (x : List (List ℕ)). x ++ line ∷ []) h
-    ∙ append_assoc front rest (line ∷ []) ∙ ap (λ (x : List (List ℕ)). front ++ x) k
-
-one_more : (parts : List Part) (c : Command) (line : List ℕ) → line ≡ command_line_of c →
-    (flat_map part_lines parts ++ []) ++ line ∷ [] ≡ flat_map part_lines (parts ++ One c ∷ []) ++ []
-one_more parts c line is =
-    rw (
-      append-nil (flat_map part_lines parts),
-      append-nil (flat_map part_lines (parts ++ One c ∷ [])),
-      flat_map-append part_lines parts (One c ∷ []),
-      is,
-    ) refl
-
 -- a command outside a block
 pub say_one : (front : List (List ℕ))
     (parts : List Part) (c : Command) (said : List (List ℕ)) (line : List ℕ) (o : Option ℕ) (body : List Command)
     → o ≡ None → line ≡ command_line_of c → said ≡ front ++ (flat_map part_lines parts ++ open_lines o body)
     → said ++ line ∷ [] ≡ front ++ (flat_map part_lines (parts ++ One c ∷ []) ++ open_lines o body)
 say_one front parts c said line o body none is h =
-    behind_front front (flat_map part_lines parts ++ open_lines o body) said
-    (flat_map part_lines (parts ++ One c ∷ []) ++ open_lines o body) line h (rw none (one_more parts c line is))
-
-inside_more : (lines : List (List ℕ)) (turns : ℕ) (body : List Command) (c : Command) (line : List ℕ)
-    → line ≡ command_line_of c
-    → (lines ++ open_lines (Some turns) body) ++ line ∷ [] ≡ lines ++ open_lines (Some turns) (body ++ c ∷ [])
-inside_more lines turns body c line is =
-    append_assoc lines (times_line_of turns ∷ map command_line_of body) (line ∷ [])
-    ∙ rw (is, map-append command_line_of body (c ∷ [])) refl
+    rw (h, none, is) (simp (append_assoc, append-nil, flat_map-append))
 
 -- a command in a block
 pub say_inside : (front : List (List ℕ)) (parts : List Part) (turns : ℕ) (c : Command)
@@ -170,33 +147,14 @@ pub say_inside : (front : List (List ℕ)) (parts : List Part) (turns : ℕ) (c 
     → o ≡ Some turns → line ≡ command_line_of c → said ≡ front ++ (flat_map part_lines parts ++ open_lines o body)
     → said ++ line ∷ [] ≡ front ++ (flat_map part_lines parts ++ open_lines o (body ++ c ∷ []))
 say_inside front parts turns c said line o body some is h =
-    behind_front front (flat_map part_lines parts ++ open_lines o body) said (flat_map part_lines parts ++ open_lines o
-    (body ++ c ∷ [])) line h (rw some (inside_more (flat_map part_lines parts) turns body c line is))
-
-begin_more : (lines : List (List ℕ)) (turns : ℕ) (line : List ℕ) → line ≡ times_line_of turns
-    → (lines ++ []) ++ line ∷ [] ≡ lines ++ open_lines (Some turns) []
-begin_more lines turns line is = rw (append-nil lines, is) refl
+    rw (h, some, is) (simp (append_assoc, map-append))
 
 -- a block begins
 pub say_times : (front : List (List ℕ))
     (parts : List Part) (turns : ℕ) (said : List (List ℕ)) (line : List ℕ) (o : Option ℕ) (body : List Command)
     → o ≡ None → line ≡ times_line_of turns → said ≡ front ++ (flat_map part_lines parts ++ open_lines o body)
     → said ++ line ∷ [] ≡ front ++ (flat_map part_lines parts ++ open_lines (Some turns) [])
-say_times front parts turns said line o body none is h =
-    behind_front front (flat_map part_lines parts ++ open_lines o body) said (flat_map part_lines parts
-    ++ open_lines (Some turns) []) line h (rw none (begin_more (flat_map part_lines parts) turns line is))
-
-end_more : (parts : List Part) (turns : ℕ) (body : List Command) (line : List ℕ)
-    → line ≡ codes "end" → (flat_map part_lines parts ++ open_lines (Some turns) body) ++ line ∷ []
-    ≡ flat_map part_lines (parts ++ Times turns body ∷ []) ++ []
-end_more parts turns body line is =
-    append_assoc (flat_map part_lines parts) (times_line_of turns ∷ map command_line_of body) (line ∷ [])
-    ∙ rw (
-      append-nil (flat_map part_lines (parts ++ Times turns body ∷ [])),
-      flat_map-append part_lines parts (Times turns body ∷ []),
-      append-nil (part_lines (Times turns body)),
-      is,
-    ) refl
+say_times front parts turns said line o body none is h = rw (h, none, is) (simp (append_assoc, append-nil))
 
 -- a block ends
 pub say_end : (front : List (List ℕ))
@@ -204,8 +162,7 @@ pub say_end : (front : List (List ℕ))
     → o ≡ Some turns → line ≡ codes "end" → said ≡ front ++ (flat_map part_lines parts ++ open_lines o body)
     → said ++ line ∷ [] ≡ front ++ (flat_map part_lines (parts ++ Times turns body ∷ []) ++ open_lines None [])
 say_end front parts turns said line o body some is h =
-    behind_front front (flat_map part_lines parts ++ open_lines o body) said (flat_map part_lines
-    (parts ++ Times turns body ∷ []) ++ open_lines None []) line h (rw some (end_more parts turns body line is))
+    rw (h, some, is) (simp (append_assoc, append-nil, flat_map-append))
 
 -- ---- commands
 

@@ -48,22 +48,8 @@ behind_cut line behind own (inr more) = (
 -- the end of a word is in its line or the newline after it
 word_in_line : (front word back : List ℕ) → IsWordEnd back → (rest : List ℕ) ×
     ((front ++ (word ++ back)) ++ 10 ∷ [] ≡ (front ++ (word ++ byte_behind back ∷ [])) ++ rest)
-word_in_line front word back (inl none) =
-    let parts = λ (x : List ℕ). append_assoc front (word ++ x) (10 ∷ [])
-    ∙ ap (λ (y : List ℕ). front ++ y) (append_assoc word x (10 ∷ [])) in (
-      [],
-      subst (λ (x : List ℕ). (front ++ (word ++ x)) ++ 10 ∷ [] ≡ (front ++ (word ++ byte_behind x ∷ [])) ++ [])
-          (sym none) (parts [] ∙ sym (append-nil (front ++ (word ++ 10 ∷ [])))),
-    )
-word_in_line front word back (inr more) =
-    let left = append_assoc front (word ++ 32 ∷ more.0) (10 ∷ [])
-    ∙ ap (λ (y : List ℕ). front ++ y) (append_assoc word (32 ∷ more.0) (10 ∷ [])) in
-    let right = append_assoc front (word ++ 32 ∷ []) (more.0 ++ 10 ∷ [])
-    ∙ ap (λ (y : List ℕ). front ++ y) (append_assoc word (32 ∷ []) (more.0 ++ 10 ∷ [])) in (
-      more.0 ++ 10 ∷ [],
-      subst (λ (x : List ℕ). (front ++ (word ++ x)) ++ 10 ∷ []
-          ≡ (front ++ (word ++ byte_behind x ∷ [])) ++ (more.0 ++ 10 ∷ [])) (sym more.1) (left ∙ sym right),
-    )
+word_in_line front word back (inl none) = ([], rw none (simp (append_assoc, append-nil)))
+word_in_line front word back (inr more) = (more.0 ++ 10 ∷ [], rw more.1 (simp append_assoc))
 
 in_line : (bytes : List ℕ) (fault : LineFault) → HasNoLargeBlock bytes → StandsInLine bytes fault → HasPlace bytes fault
 in_line bytes fault small h =
@@ -73,8 +59,7 @@ in_line bytes fault small h =
     let whole : text_of (h.before ++ h.line ∷ [])
     ≡ (text_of h.before ++ (h.front ++ (h.word ++ byte_behind h.back ∷ []))) ++ last.0 =
     text_more h.before h.line ∙ ap (λ (x : List ℕ). text_of h.before ++ (x ++ 10 ∷ [])) h.is_word.line_is
-    ∙ ap (λ (x : List ℕ). text_of h.before ++ x) last.1
-    ∙ sym (append_assoc (text_of h.before) (h.front ++ (h.word ++ byte_behind h.back ∷ [])) last.0) in
+    ∙ rw last.1 (simp append_assoc) in
     record {
       before = h.before;
       line = h.line;
@@ -111,10 +96,8 @@ lacks_newline bytes fault small h =
     let own = all_to _ h.line h.is_line in
     let cut = ap (slice_split newline) (sym (append-nil h.line)) ∙ line_more h.line [] [] [] own refl
     ∙ ap (λ (x : List ℕ). x ∷ []) (append-nil h.line) in
-    let whole : bytes ++ 10 ∷ [] ≡ text_of (h.before ++ h.line ∷ []) ++ [] = ap (λ
-    (x : List ℕ). x ++ 10 ∷ []) h.bytes_are
-    ∙ append_assoc (text_of h.before) h.line (10 ∷ []) ∙ sym (text_more h.before h.line)
-    ∙ sym (append-nil (text_of (h.before ++ h.line ∷ []))) in
+    let whole : bytes ++ 10 ∷ [] ≡ text_of (h.before ++ h.line ∷ []) ++ [] =
+    rw (h.bytes_are, text_more h.before h.line) (simp (append_assoc, append-nil)) in
     let begins = no_large bytes (h.before ++ h.line ∷ []) [] small whole h.faultless in
     record {
       before = h.before;

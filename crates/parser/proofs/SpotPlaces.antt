@@ -412,11 +412,7 @@ none_spelled s config valid lines h = all_weaker (λ x. is_sought s x ≡ false)
 text_at : (before after : List (List ℕ)) (line other : List ℕ) → line ≡ other
     → flat_map with_newline (before ++ line ∷ after)
     ≡ flat_map with_newline before ++ (other ++ 10 ∷ flat_map with_newline after)
-text_at before after line other e =
-    flat_map-append with_newline before (line ∷ after)
-    ∙ ap (λ (x : List ℕ). flat_map with_newline before ++ ((x ++ 10 ∷ []) ++ flat_map with_newline after)) e
-    ∙ ap (λ (x : List ℕ). flat_map with_newline before ++ x)
-    (append_assoc other (10 ∷ []) (flat_map with_newline after))
+text_at before after line other e = rw e (simp (flat_map-append, append_assoc))
 
 -- the first line that is searched for, of a text that spells a script
 pub spot_stands : (s : Sought) (bytes : List ℕ) (t : ScriptValue) (fault : LineFault) → IsScript t → Spells bytes t

@@ -208,8 +208,7 @@ never_behind_line : (before : List (List ℕ)) (line : List ℕ) (t : ReadSoFar)
 never_behind_line before line t flaw each own leads wrong begins =
     let same : line ++ [] ≡ line = append-nil line in
     let bytes : (text_of before ++ (line ++ 10 ∷ [])) ++ begins.more ≡ text_of before ++ (line ++ 10 ∷ begins.more) =
-    append_assoc (text_of before) (line ++ 10 ∷ []) begins.more
-    ∙ ap (λ (x : List ℕ). text_of before ++ x) (append_assoc line (10 ∷ []) begins.more) in
+    simp append_assoc in
     not_read before line (10 ∷ begins.more) [] (slice_split newline begins.more) t flaw begins.script each own leads
     (slice_split-cons_yes newline 10 begins.more refl)
     (subst (λ (x : List ℕ). line_in t x ≡ Err flaw) (sym same) wrong)
@@ -239,20 +238,14 @@ pub never_begins : (before : List (List ℕ)) (line front word back : List ℕ) 
     → line ≡ front ++ (word ++ back) → IsWordEnd back → flaw.column ≡ length front + 1
     → BeginsScript (text_of before ++ (front ++ (word ++ byte_behind back ∷ []))) → ⊥
 never_begins before line front word back t flaw each own leads wrong is (inl none) column begins =
-    let same : line ≡ front ++ word = is ∙ ap (λ (x : List ℕ). front ++ (word ++ x)) none
-    ∙ ap (λ (x : List ℕ). front ++ x) (append-nil word) in
+    let same : line ≡ front ++ word = rw (is, none) (simp append-nil) in
     let bytes : text_of before ++ (front ++ (word ++ byte_behind back ∷ [])) ≡ text_of before ++ (line ++ 10 ∷ []) =
-    ap (λ (x : List ℕ). text_of before ++ (front ++ (word ++ byte_behind x ∷ []))) none
-    ∙ ap (λ (x : List ℕ). text_of before ++ x) (sym (append_assoc front word (10 ∷ [])))
-    ∙ ap (λ (x : List ℕ). text_of before ++ (x ++ 10 ∷ [])) (sym same) in
+    rw (none, same) (simp append_assoc) in
     never_behind_line before line t flaw each own leads wrong (subst BeginsScript bytes begins)
 never_begins before line front word back t flaw each own leads wrong is (inr more) column begins =
-    let same : line ≡ (front ++ word) ++ 32 ∷ more.0 =
-    is ∙ ap (λ (x : List ℕ). front ++ (word ++ x)) more.1 ∙ sym (append_assoc front word (32 ∷ more.0)) in
+    let same : line ≡ (front ++ word) ++ 32 ∷ more.0 = rw (is, more.1) (simp append_assoc) in
     let bytes : text_of before ++ (front ++ (word ++ byte_behind back ∷ []))
-    ≡ text_of before ++ ((front ++ word) ++ 32 ∷ []) =
-    ap (λ (x : List ℕ). text_of before ++ (front ++ (word ++ byte_behind x ∷ []))) more.1
-    ∙ ap (λ (x : List ℕ). text_of before ++ x) (sym (append_assoc front word (32 ∷ []))) in
+    ≡ text_of before ++ ((front ++ word) ++ 32 ∷ []) = rw more.1 (simp append_assoc) in
     let long = length-append front word in
     let front_own : HasNoNewlines (front ++ word) =
     all_front (λ b. b ≢ 10) (front ++ word) (32 ∷ more.0) (subst HasNoNewlines same own) in
