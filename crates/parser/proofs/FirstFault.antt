@@ -92,7 +92,8 @@ mended_words firsts lasts clean plain = (
 -- a line that begins with a layout line's word begins with `l`
 no_layout_line : (r : ReadSoFar) (line : List ℕ) (w : List ℕ × ℕ) → word_at line 0 ≡ Some w → HasOtherStart line
     → is_layout_next r w.0 ≡ false
-no_layout_line r line w found start = let no : bytes_eq w.0 (codes "layout") ≡ false = not_equal w.0 (codes "layout") (λ e.
+no_layout_line r line w found start = let no : bytes_eq w.0 (codes "layout") ≡ false = not_equal w.0 (codes "layout")
+    (λ e.
     start (first_is line 108 (codes "ayout") (words_from line w.1)
     (word_is line 0 w found ∙ ap (λ (x : List ℕ). x ∷ words_from line w.1) e))) in rw no refl
 
@@ -152,8 +153,10 @@ pub right_up_to : (before : Words) (line : List ℕ) (r : ReadSoFar) (f : Flaw) 
 right_up_to before line r f each own leads h at some start =
     let most = length line + 1 in
     let b = fault_of line most (omega arith) r f h in
-    elim (run_mends (Ends r b.w.0) line f own (Says r r.sizes b.w.0) (line_step most r r.sizes b.w.0) true (Some (Some b.w.0)) 0
-    (line_sound r b.w.0 most (filter says_something before) (all_leads_said before r leads)) (sym (ap word_in b.found)) b.fails) [
+    elim (run_mends (Ends r b.w.0) line f own (Says r r.sizes b.w.0) (line_step most r r.sizes b.w.0) true
+    (Some (Some b.w.0)) 0
+    (line_sound r b.w.0 most (filter says_something before) (all_leads_said before r leads)) (sym (ap word_in b.found))
+    b.fails) [
       | inl here ↦ elim here [
         | inl first ↦ let column = first.1 in let place = at.column in
             absurd (some (no_bytes at.front (omega arith)))

@@ -306,19 +306,22 @@ heap_tree = whole_tree sizes_tree
 memory_run : (line : List ℕ) (at : ℕ) → run memory_tree line at ≡ memory_at line at
 unfolding memory_at
 memory_run line at = three_run page_size_tree (field_tree (codes "frames") 1 MOST_FRAMES)
-    (λ (frames : ℕ). field_tree (codes "pages") frames MOST_PAGES) (λ a b c. (a, b, c)) line at _ _ _ (page_size_run line at)
+    (λ (frames : ℕ). field_tree (codes "pages") frames MOST_PAGES) (λ a b c. (a, b, c)) line at _ _ _
+    (page_size_run line at)
     (field_run line (codes "frames") 1 MOST_FRAMES) (λ frames. field_run line (codes "pages") frames MOST_PAGES)
 
 actors_run : (line : List ℕ) (at : ℕ) → run actors_tree line at ≡ actors_at line at
 unfolding actors_at
 actors_run line at = three_run (field_tree (codes "threads") 1 MOST_THREADS) (field_tree (codes "workers") 1 16)
-    (λ (workers : ℕ). field_tree (codes "registers") 1 16) (λ a b c. (a, b, c)) line at _ _ _ (field_run line (codes "threads") 1 MOST_THREADS at)
+    (λ (workers : ℕ). field_tree (codes "registers") 1 16) (λ a b c. (a, b, c)) line at _ _ _
+    (field_run line (codes "threads") 1 MOST_THREADS at)
     (field_run line (codes "workers") 1 16) (λ workers. field_run line (codes "registers") 1 16)
 
 limits_run : (line : List ℕ) (at : ℕ) → run limits_tree line at ≡ limits_at line at
 unfolding limits_at
 limits_run line at = three_run (field_tree (codes "globals") 0 64) (limit_tree (codes "births") 4294967296)
-    (λ (births : ℕ). limit_tree (codes "history") 1000000) (λ a b c. (a, b, c)) line at _ _ _ (field_run line (codes "globals") 0 64 at)
+    (λ (births : ℕ). limit_tree (codes "history") 1000000) (λ a b c. (a, b, c)) line at _ _ _
+    (field_run line (codes "globals") 0 64 at)
     (limit_run line (codes "births") 4294967296) (λ births. limit_run line (codes "history") 1000000)
 
 pub heap_run : (line : List ℕ) (at : ℕ) → values (run heap_tree line at) ≡ heap_in line at

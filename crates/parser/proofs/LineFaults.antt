@@ -188,7 +188,8 @@ ends_pick c false t u h k = k
 name_ends : {A : Type 0} (letter count : ℕ) (k : ℕ → Tree A) (w : List ℕ) → ((n : ℕ) → EndsAt (Some (Some w)) (k n))
     → EndsAt (Some (Some w)) (name_in letter count kinds.NoSuchActor k w)
 name_ends letter count k [] h = tt
-name_ends {A} letter count k (b ∷ bs) h = by_test (not (b == letter) || not (is_number bs)) (nat_le count (capped_from 0 bs))
+name_ends {A} letter count k (b ∷ bs) h = by_test (not (b == letter) || not (is_number bs))
+    (nat_le count (capped_from 0 bs))
   where
     by_test : (c d : Bool) → EndsAt (Some (Some (b ∷ bs))) (cond {A = Tree A} c (Fail kinds.UnknownWord)
         (cond d (Fail kinds.NoSuchActor) (k (capped_from 0 bs))))

@@ -65,7 +65,8 @@ module _ (most : ℕ) where
 -- ---- it reads what is defined
 
 -- whether a line begins with `w` is seen at its first word
-first_byte_of : (line : List ℕ) (w : List ℕ × ℕ) → IsWordAt line 0 w → (first_byte line == 119) ≡ (first_byte w.0 == 119)
+first_byte_of : (line : List ℕ) (w : List ℕ × ℕ) → IsWordAt line 0 w → (first_byte line == 119) ≡
+    (first_byte w.0 == 119)
 first_byte_of line w is = subst (λ (x : List ℕ). (first_byte x == 119) ≡ (first_byte w.0 == 119))
     (sym (is.line_is ∙ ap (λ (x : List ℕ). x ++ (w.0 ++ is.back)) (no_bytes is.front is.length_is)))
     (by_word w.0 is.back is.ends)
@@ -117,7 +118,8 @@ module _ (line : List ℕ) (most : ℕ) (enough : length line < most) (w : List 
 
     end_step_run : (r : ReadSoFar) (o : Option ℕ) → values (run (end_step r o) line 0) ≡ end_in r o line
     end_step_run r None = fail kinds.EndWithoutTimes
-    end_step_run r (Some turns) = rw first (pick (nat_lt MOST_COMMANDS (length r.commands + turns * length r.body)) _ _ _ _
+    end_step_run r (Some turns) = rw first (pick (nat_lt MOST_COMMANDS (length r.commands + turns * length r.body)) _ _
+        _ _
         (fail kinds.TooManyCommands) (skip end_tree
         (λ u. record r { commands = r.commands ++ repeat turns r.body; turns = None; body = [] }) _
         (ap (λ (s : Result (Unit {0} × ℕ) Flaw). values s) (end_run line w.1) ∙ bind_assoc (end_at line w.1) _ _

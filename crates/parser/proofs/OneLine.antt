@@ -27,8 +27,7 @@ no_large bytes lines more small is (inl begins) = begins
 no_large bytes lines more small is (inr large) = absurd (small lines more is large)
 
 text_more : (lines : List (List ℕ)) (line : List ℕ) → text_of (lines ++ line ∷ []) ≡ text_of lines ++ (line ++ 10 ∷ [])
-text_more lines line = flat_map-append with_newline lines (line ∷ [])
-    ∙ ap (λ (x : List ℕ). text_of lines ++ x) (append-nil (line ++ 10 ∷ []))
+text_more lines line = simp (flat_map-append, append-nil)
 
 -- the parts of a line and what follows it
 behind_cut : (line behind : List ℕ) → HasNoNewlines line → IsLineEnd behind

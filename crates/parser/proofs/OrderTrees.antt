@@ -29,7 +29,8 @@ use Rattle.parser.specs.declared.verbs.Verb.TheVariants as verbs
 abbrev pub parts_in : ℕ → Option (List ℕ × List ℕ) → Tree ℕ
 parts_in words None = Fail kinds.UnknownWord
 parts_in words (Some parts) = cond (not (is_number parts.0) || not (is_number parts.1)) (Fail kinds.UnknownWord)
-    (cond (nat_le (2 ^ 32) (capped_from 0 parts.0) || nat_le words (capped_from 0 parts.1)) (Fail kinds.NumberOutOfRange)
+    (cond (nat_le (2 ^ 32) (capped_from 0 parts.0) || nat_le words (capped_from 0 parts.1))
+    (Fail kinds.NumberOutOfRange)
     (Skip (Done (address_number (capped_from 0 parts.0) (capped_from 0 parts.1)))))
 
 abbrev pub address_tree : ℕ → Tree ℕ
@@ -368,7 +369,8 @@ module _ (sizes : Sizes) (most : ℕ) where
   order_good few actor = good_chain Any IsLast (λ verb. whole_tree (operands_tree verb)) (IsVerbOf actor)
       (IsOrderOf sizes actor) (verb_tree actor) (verb_good actor) (record {
         good = λ verb ws v. weaker IsLast _ (λ (o : Order) vs. IsOrderOf sizes actor o (ws ++ vs)) _ (λ o vs h. record {
-          words_are = rw (v.words_are, h.words_are) (ap (λ (x : Verb). (row_of x).text ∷ operand_words (row_of x).kinds o)
+          words_are = rw (v.words_are, h.words_are) (ap (λ (x : Verb). (row_of x).text ∷ operand_words (row_of x).kinds
+              o)
               (sym h.verb_is));
           own = subst (λ (x : Verb). does actor x ≡ true) (sym h.verb_is) v.own;
           fits = h.fits;

@@ -311,7 +311,8 @@ heap_accepted : (r u : ReadSoFar) (line : List ℕ) → IsHeapLine r u line → 
 heap_accepted r u line h =
     let idle : is_idle line ≡ false = ap is_idle h.spelled.line_is in
     subst (λ (x : ReadSoFar). line_in x line ≡ Ok u) (sym h.first) (heap_taken h.sizes line h.range h.spelled idle
-    ∙ ap (λ (x : ReadSoFar). Ok x) (ap (λ (x : ReadSoFar). record x { sizes = Some h.sizes }) (sym h.first) ∙ sym h.then))
+    ∙ ap (λ (x : ReadSoFar). Ok x) (ap (λ (x : ReadSoFar). record x { sizes = Some h.sizes }) (sym h.first) ∙ sym
+    h.then))
 
 part_accepted : (z : Sizes) (r u : ReadSoFar) (line : List ℕ) → r.sizes ≡ Some z → IsSizes z → 1 ≤ length r.layouts
     → (IsCommandLine z r u line ⊎ IsTimesLine r u line) ⊎ IsEndLine r u line → line_in r line ≡ Ok u

@@ -225,7 +225,8 @@ spelled_is_read bytes s h spells =
     let first : ReadSoFar = record nothing { sizes = Some z } in
     let second : ReadSoFar = record first { layouts = c.layouts } in
     let heap = heap_taken z spells.heap told.sizes spelled (ap is_idle spelled.line_is) in
-    let layouts = layouts_lead z told.sizes c.layouts first refl refl (omega arith) (all_to IsLayout c.layouts h.layouts)
+    let layouts = layouts_lead z told.sizes c.layouts first refl refl (omega arith)
+    (all_to IsLayout c.layouts h.layouts)
     told.layouts.room in
     let each = subst (λ (x : List Command). AllByRecursion (IsCommand (config_of z [])) x) spells.commands_are
     (commands_of c s.commands (all_to (IsCommand c) s.commands h.commands)) in

@@ -218,7 +218,8 @@ never_behind_line before line t flaw each own leads wrong begins =
 -- a line whose word before a space has a fault
 never_behind_word : (before : List (List ℕ)) (front back : List ℕ) (t : ReadSoFar) (flaw : Flaw)
     → AllByRecursion HasNoNewlines before → HasNoNewlines front → Leads before nothing t
-    → line_in t (front ++ 32 ∷ back) ≡ Err flaw → flaw.column ≤ length front + 1 → BeginsScript (text_of before ++ (front ++ 32 ∷ [])) → ⊥
+    → line_in t (front ++ 32 ∷ back) ≡ Err flaw → flaw.column ≤ length front + 1 → BeginsScript
+    (text_of before ++ (front ++ 32 ∷ [])) → ⊥
 never_behind_word before front back t flaw each own leads wrong early begins =
     let spaced = front ++ 32 ∷ [] in
     let cut = split_cons newline begins.more in

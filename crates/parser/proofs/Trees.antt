@@ -319,7 +319,8 @@ run_ok {A} May P line v (Skip t) first c at sound same h =
 
 -- a fault is at the word at a place
 abbrev pub IsHere : List ℕ → Flaw → ℕ → Type 0
-IsHere line f at = ((at ≤ length line) × (f.column ≡ at + 1)) ⊎ ((words_from line at ≡ []) × (f.column ≡ length line + 1))
+IsHere line f at = ((at ≤ length line) × (f.column ≡ at + 1)) ⊎ ((words_from line at ≡ []) ×
+    (f.column ≡ length line + 1))
 
 tail_here : (line : List ℕ) (f : Flaw) (at : ℕ) → IsHere line f at → IsTail line f (words_from line at)
 tail_here line f at (inl h) = inl (at, (refl, h))

@@ -474,7 +474,8 @@ fault_at_word line at w f p is column wrong = record {
 }
 
 -- a fault where a word is missing
-pub fault_at_end : (line : List ℕ) (kind : FaultKind) → IsWrongWord kind line [] → IsFaultAt line (flaw (length line) kind)
+pub fault_at_end : (line : List ℕ) (kind : FaultKind) → IsWrongWord kind line [] → IsFaultAt line
+    (flaw (length line) kind)
 fault_at_end line kind wrong = record {
   front = line;
   word = [];

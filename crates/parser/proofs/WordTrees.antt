@@ -338,7 +338,10 @@ pub named_good : (letter count : ℕ) (missing : FaultKind) → 1 ≤ count → 
 named_good letter count missing some fits plain absent = record {
   lives = record {
     words = (letter ∷ decimal 0) ∷ [];
-    plain = ((let high : nat_lt 32 letter ≡ true = grind (arith, nat_tests) in rw high (number_plain 0 (omega arith))), tt);
+    plain = (
+      (let high : nat_lt 32 letter ≡ true = grind (arith, nat_tests) in rw high (number_plain 0 (omega arith))),
+      tt,
+    );
     value = 0;
     is = record { words_are = refl; below = some };
     reads = λ line at rest may e. let a = named_again line at letter count missing 0 rest (omega arith) some e in
@@ -380,7 +383,8 @@ end_good = record {
     is = refl;
     reads = λ line at rest may e. (
       at,
-      ap (λ (o : Option (List ℕ × ℕ)). run (end_in (word_in o)) line at) (none_past line at (past_end line at (e ∙ may))),
+      ap (λ (o : Option (List ℕ × ℕ)). run (end_in (word_in o)) line at)
+          (none_past line at (past_end line at (e ∙ may))),
       e,
     );
   };
