@@ -1,30 +1,87 @@
--- Actors and complete orders: what is read is spelled so, and what is spelled so is read.
-use Rattle.std.proofs.Common.{◌≡◌, ℕ, Bool, true, false, cond, List, [], ◌∷◌, ◌++◌}
-use Rattle.std.proofs.Common.{Some, refl, sym, ap, subst, ◌∙◌, arith, inl, inr, append-nil}
-use Rattle.std.specs.Prelude.{Ok, ◌==◌, find, Option, None}
-use Rattle.std.specs.Str.{bytes_eq}
-use Rattle.std.specs.Fmt.{decimal}
-use Rattle.std.specs.List.{join_with_byte}
-use Rattle.std.proofs.lemmas.List.Splits.{join_with_byte-slice_split}
-use Rattle.std.proofs.lemmas.Slice.Eq.{bytes_eq-Decides}
-use Rattle.std.proofs.lemmas.Option.{same_Some}
-use Rattle.model.specs.declared.steps.Actor.{Actor}
-use Rattle.model.specs.declared.steps.Actor.TheVariants.{Thread, Worker}
-use Rattle.model.proofs.Results.{same_result}
-use Rattle.parser.specs.declared.fault.FaultKind.TheVariants as kinds
-use Rattle.parser.specs.declared.heading.Sizes.{Sizes}
-use Rattle.parser.specs.declared.order.Order.{Order}
-use Rattle.parser.specs.declared.verbs.Verb.{Verb}
+-- Operands, actors and orders: what is spelled so is read.
+use Rattle.parser.proofs.Names.{Bool, List, [], ap, append_assoc, arith, false, refl, sym, true, ℕ, ◌++◌, ◌<◌, ◌^◌}
+use Rattle.parser.proofs.Names.{◌∙◌, ◌≡◌, ◌≤◌, decimal, Ok, map, config_of, more_at, operand_at, operands_at}
+use Rattle.parser.proofs.Names.{register_at, AreMore, IsOperand, IsOrder, operand_word, operand_words, row_of, Sizes}
+use Rattle.parser.proofs.Names.{Order, Kind, Address, Long, Nothing, Number, Percent, Register, ThreadName, None}
+use Rattle.parser.proofs.Names.{Option, Some, cond, subst, ◌∷◌, join_with_byte-slice_split, same_Some}
+use Rattle.parser.proofs.Names.{bytes_eq-Decides, join_with_byte, ◌==◌, bytes_eq, Actor, Thread, Worker, does}
+use Rattle.parser.proofs.Names.{first_byte, verb_in, actor_at, order_at, IsActor, IsFor, actor_word, order_words}
+use Rattle.parser.proofs.Names.{verb_of, Verb}
+use Rattle.parser.specs.Spelling.{Bounds, bounds_of}
+use Rattle.parser.proofs.WordPlaces.{words_from, Reads, number_again, small_again, named_again, words_whole}
+use Rattle.parser.proofs.WordPlaces.{word_again, end_again}
+use Rattle.parser.proofs.ManyNumbers.{address_again, numbers_again}
+use Rattle.parser.proofs.Lists.{all_to}
+use Rattle.std.specs.Prelude.{find}
 use Rattle.parser.specs.declared.verbs.TheConstants.{VERBS}
-use Rattle.parser.specs.Words.{or_flaw, flaw, word_or, named_at, end_at}
-use Rattle.parser.specs.Verbs.{row_of, verb_of}
-use Rattle.parser.specs.Orders.{does, done_by, verb_in, first_byte, actor_at, operands_at, order_at}
-use Rattle.parser.specs.Headings.{config_of}
-use Rattle.parser.specs.Spelling.{actor_word, operand_words, order_words, IsActor, IsFor, IsOrder}
-use Rattle.parser.proofs.Places.{words_from, words_whole, Reads}
-use Rattle.parser.proofs.Places.{bind_ok, or_flaw_ok, word_ok, word_again}
-use Rattle.parser.proofs.Places.{named_ok, named_again, end_ok, end_again, one_of}
-use Rattle.parser.proofs.Operands.{AreFew, bounds_in, operands_ok, operands_again}
+use Rattle.parser.specs.Orders.{done_by}
+use Rattle.parser.proofs.Numbers.{IsPlain}
+use Rattle.parser.specs.declared.fault.FaultKind.TheVariants as kinds
+
+-- ---- bounds
+
+-- a number of at least one, of 32 bits
+abbrev pub IsCount : ℕ → Type 0
+IsCount n = (1 ≤ n) × (n < 2 ^ 32)
+
+-- few enough words, threads, workers and registers for their numbers
+pub record AreFew (sizes : Sizes) : Type 0 where
+  pub words : IsCount sizes.words
+  pub threads : IsCount sizes.threads
+  pub workers : IsCount sizes.workers
+  pub registers : IsCount sizes.registers
+
+-- the bounds of sizes
+abbrev pub bounds_in : Sizes → Bounds
+bounds_in sizes = bounds_of (config_of sizes [])
+
+-- ---- one operand
+
+pub operand_again : (sizes : Sizes) (line : List ℕ) (at : ℕ) (kind : Kind) (n : ℕ) (ws : List (List ℕ))
+    → AreFew sizes → IsOperand (bounds_in sizes) kind n → words_from line at ≡ operand_word kind n ++ ws
+    → Reads line (operand_at sizes line at kind) n ws
+unfolding operand_at register_at
+operand_again sizes line at Nothing n ws few is h = (at, ap (λ (x : ℕ). Ok (x, at)) (sym is), h)
+operand_again sizes line at Register n ws few is h =
+    named_again line at 114 sizes.registers kinds.NoSuchRegister n ws (omega (arith, few.registers.1, is)) is h
+operand_again sizes line at Number n ws few is h = small_again line at n ws is h
+operand_again sizes line at Long n ws few is h =
+    number_again line at 0 18446744073709551615 n ws is (omega arith) (omega (arith, is)) h
+operand_again sizes line at ThreadName n ws few is h =
+    named_again line at 116 sizes.threads kinds.NoSuchActor n ws (omega (arith, few.threads.1, is)) is h
+operand_again sizes line at Address n ws few is h = address_again line at sizes.words n ws is.0 is.1 h
+operand_again sizes line at Percent n ws few is h =
+    number_again line at 0 100 n ws (omega (arith, is)) (omega arith) (omega (arith, is)) h
+
+-- ---- numbers after operands
+
+more_again : (line : List ℕ) (at : ℕ) (some : Bool) (ns : List ℕ) → AreMore some ns
+    → words_from line at ≡ map decimal ns → Reads line (more_at some line at) ns []
+more_again line at false ns is h =
+    (at, ap (λ (x : List ℕ). Ok (x, at)) (sym is), h ∙ ap (map decimal) is)
+more_again line at true ns is h = numbers_again line at ns (all_to (λ n. n < 2 ^ 32) ns is) h
+
+-- ---- the operands of an order
+
+-- words after words
+pub behind : (a x b y c : List (List ℕ)) → a ≡ x ++ b → b ≡ y ++ c → a ≡ (x ++ y) ++ c
+behind a x b y c e f = e ∙ ap (λ (t : List (List ℕ)). x ++ t) f ∙ sym (append_assoc x y c)
+
+pub operands_again : (sizes : Sizes) (line : List ℕ) (at : ℕ) (o : Order) → AreFew sizes → IsOrder (bounds_in sizes) o
+    → words_from line at ≡ operand_words (row_of o.verb).kinds o → Reads line (operands_at sizes line at o.verb) o []
+unfolding operands_at
+operands_again sizes line at o fits is h =
+    let k = (row_of o.verb).kinds in
+    let m = map decimal o.more in
+    let w = operand_word k.wide o.wide in
+    let z = operand_word k.third o.third in
+    let y = operand_word k.second o.second in
+    let a = operand_again sizes line at k.first o.first (y ++ (z ++ (w ++ m))) fits is.first h in
+    let b = operand_again sizes line a.0 k.second o.second (z ++ (w ++ m)) fits is.second a.2 in
+    let c = operand_again sizes line b.0 k.third o.third (w ++ m) fits is.third b.2 in
+    let d = operand_again sizes line c.0 k.wide o.wide m fits is.wide c.2 in
+    let e = more_again line d.0 k.more o.more is.more d.2 in
+    (e.0, rw (a.1, b.1, c.1, d.1, e.1) refl, e.2)
 
 -- ---- verbs
 
@@ -60,8 +117,7 @@ pub actor_verb : (actor : Actor) (w : List ℕ) (v : Verb) → verb_in actor w �
     → (does actor v ≡ true) × (w ≡ (row_of v).text)
 actor_verb actor w v h = by_verb (verb_of w) refl h
   where
-    by_test : (x : Verb) (b : Bool) → does actor x ≡ b → cond b (Some x) None ≡ Some v
-        → (does actor v ≡ true) × (x ≡ v)
+    by_test : (x : Verb) (b : Bool) → does actor x ≡ b → cond b (Some x) None ≡ Some v → (does actor v ≡ true) × (x ≡ v)
     by_test x true own e =
         let same : x ≡ v = same_Some x v e in (subst (λ (y : Verb). does actor y ≡ true) same own, same)
     by_test x false own e = absurd cc
@@ -73,80 +129,26 @@ actor_verb actor w v h = by_verb (verb_of w) refl h
         let own = by_test x (does actor x) refl e in
         (own.0, verb_ok w v (found ∙ ap Some own.1))
 
+-- a verb's word has no spaces
+pub text_plain : (verb : Verb) → IsPlain (row_of verb).text
+text_plain verb = grind arith
+
 -- ---- orders
 
--- an order's verb, its operands, and no more words
-whole_order : (x : List (List ℕ)) (w text : List ℕ) (y rest operands : List (List ℕ)) → x ≡ w ∷ y → w ≡ text
-    → y ≡ operands ++ rest → rest ≡ [] → x ≡ text ∷ operands
-whole_order x w text y rest operands p q r s =
-    p ∙ ap (λ (t : List ℕ). t ∷ y) q
-    ∙ ap (λ (t : List (List ℕ)). text ∷ t) (r ∙ ap (λ (t : List (List ℕ)). operands ++ t) s ∙ append-nil operands)
+pub own_verb : (actor : Actor) (verb : Verb) → does actor verb ≡ true → verb_in actor (row_of verb).text ≡ Some verb
+own_verb actor verb own = ap (done_by actor) (verb_again verb) ∙ (rw own refl)
 
--- an order is spelled from a place to the end
-pub record IsOrderFrom (sizes : Sizes) (line : List ℕ) (actor : Actor) (at : ℕ) (o : Order) : Type 0 where
-  pub spelled : words_from line at ≡ order_words o
-  pub own : IsFor actor o
-  pub fits : IsOrder (bounds_in sizes) o
-
-pub order_ok : (sizes : Sizes) (line : List ℕ) (actor : Actor) (at : ℕ) (o : Order) → AreFew sizes
-    → order_at sizes line actor at ≡ Ok o → IsOrderFrom sizes line actor at o
-unfolding order_at
-order_ok sizes line actor at o few h =
-    let w = bind_ok (word_or line at kinds.UnknownWord) _ o h in
-    let verb = bind_ok (or_flaw (verb_in actor w.0.0) (flaw at kinds.UnknownWord)) _ o w.2 in
-    let v = bind_ok (operands_at sizes line w.0.1 verb.0) _ o verb.2 in
-    let e = bind_ok (end_at line v.0.1) _ o v.2 in
-    let first = word_ok line at kinds.UnknownWord w.0 w.1 in
-    let own = actor_verb actor w.0.0 verb.0
-    (or_flaw_ok (verb_in actor w.0.0) (flaw at kinds.UnknownWord) verb.0 verb.1) in
-    let operands = operands_ok sizes line w.0.1 verb.0 v.0 few v.1 in
-    let last = end_ok line v.0.1 e.0 e.1 in
-    let text : w.0.0 ≡ (row_of v.0.0.verb).text =
-    own.1 ∙ sym (ap (λ (x : Verb). (row_of x).text) operands.verb_is) in
-    subst (λ (x : Order). IsOrderFrom sizes line actor at x) (same_result v.0.0 o e.2) (record {
-      spelled = whole_order (words_from line at) w.0.0 (row_of v.0.0.verb).text (words_from line w.0.1)
-          (words_from line v.0.1) (operand_words (row_of v.0.0.verb).kinds v.0.0) first text operands.spelled last;
-      own = subst (λ (x : Verb). does actor x ≡ true) (sym operands.verb_is) own.0;
-      fits = operands.fits;
-    })
-
-in_verb : (actor : Actor) (o : Order) → IsFor actor o → verb_in actor (row_of o.verb).text ≡ Some o.verb
-in_verb actor o own = ap (done_by actor) (verb_again o.verb) ∙ (rw own refl)
-
-pub order_again : (sizes : Sizes) (line : List ℕ) (actor : Actor) (at : ℕ) (o : Order) → AreFew sizes
-    → IsFor actor o → IsOrder (bounds_in sizes) o → words_from line at ≡ order_words o
-    → order_at sizes line actor at ≡ Ok o
+pub order_again : (sizes : Sizes) (line : List ℕ) (actor : Actor) (at : ℕ) (o : Order) → AreFew sizes → IsFor actor o
+    → IsOrder (bounds_in sizes) o → words_from line at ≡ order_words o → order_at sizes line actor at ≡ Ok o
 unfolding order_at
 order_again sizes line actor at o few own is h =
     let operands = operand_words (row_of o.verb).kinds o in
     let w = word_again line at kinds.UnknownWord (row_of o.verb).text operands h in
     let v = operands_again sizes line w.0 o few is w.2 in
     let e = end_again line v.0 v.2 in
-    rw (w.1, in_verb actor o own, v.1, e) refl
+    rw (w.1, own_verb actor o.verb own, v.1, e) refl
 
 -- ---- actors
-
--- an actor that exists is the first word
-pub record IsActorAt (sizes : Sizes) (line : List ℕ) (a : Actor × ℕ) : Type 0 where
-  pub spelled : words_from line 0 ≡ actor_word a.0 ∷ words_from line a.1
-  pub there : IsActor (config_of sizes []) a.0
-
-pub actor_ok : (sizes : Sizes) (line : List ℕ) (a : Actor × ℕ) → AreFew sizes → actor_at sizes line ≡ Ok a
-    → IsActorAt sizes line a
-unfolding actor_at
-actor_ok sizes line a few h =
-    elim (one_of (first_byte line == 119) _ _ (Ok a) h) [
-      | inl worker ↦
-          let w = bind_ok (named_at line 0 119 sizes.workers kinds.NoSuchActor) _ a worker.1 in
-          let n = named_ok line 0 119 sizes.workers kinds.NoSuchActor w.0 (omega (arith, few.workers.1)) w.1 in
-          subst (λ (x : Actor × ℕ). IsActorAt sizes line x) (same_result (Worker w.0.0, w.0.1) a w.2)
-          (record { spelled = n.spelled; there = n.below })
-      | inr thread ↦
-          let t = bind_ok (named_at line 0 116 sizes.threads kinds.NoSuchActor) _ a thread.1 in
-          let n = named_ok line 0 116 sizes.threads kinds.NoSuchActor t.0 (omega (arith, few.threads.1)) t.1 in
-          subst (λ (x : Actor × ℕ). IsActorAt sizes line x) (same_result (Thread t.0.0, t.0.1) a t.2)
-          (record { spelled = n.spelled; there = n.below })
-    ]
 
 first_joined : (b : ℕ) (w : List ℕ) (ws : List (List ℕ)) → first_byte (join_with_byte 32 ((b ∷ w) ∷ ws)) ≡ b
 first_joined b w [] = refl

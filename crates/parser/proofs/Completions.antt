@@ -1,34 +1,22 @@
 -- Lines that are accepted begin a script, as some lines after them complete it.
-use Rattle.std.proofs.Common.{◌≡◌, ℕ, ◌^◌, ◌≤◌, Bool, true, false, List, [], ◌∷◌, ◌++◌, length}
-use Rattle.std.proofs.Common.{Option, Some, None, refl, sym, ap, subst, ◌∙◌, arith, inl, inr, append-nil, append_assoc}
-use Rattle.std.proofs.Common.{length-append}
-use Rattle.std.specs.Prelude.{Ok, ◌==◌, codes, map, filter}
-use Rattle.std.specs.Fmt.{decimal}
-use Rattle.std.specs.List.{AllByRecursion, flat_map, repeat}
-use Rattle.std.proofs.lemmas.Bool.{cases_lt}
-use Rattle.std.proofs.lemmas.Bool.Decides.{nat_tests}
-use Rattle.std.proofs.lemmas.List.Elements.{filter-append}
-use Rattle.std.proofs.lemmas.Grind.{flat_map-append}
-use Rattle.layout.specs.declared.shape.Layout.{Layout}
-use Rattle.model.specs.Configs.{fits_page}
-use Rattle.model.proofs.Ranges.{page_size_range}
-use Rattle.parser.specs.declared.heading.Sizes.{Sizes}
-use Rattle.parser.specs.declared.reading.TheConstants.{MOST_COMMANDS}
-use Rattle.parser.specs.Headings.{config_of}
-use Rattle.parser.specs.Reading.{ScriptValue, script_of, ReadSoFar, nothing, line_in, closed, whole}
-use Rattle.parser.specs.Reading.{finished}
-use Rattle.parser.specs.Spelling.{line_of, layout_line_of, size_words, SpellsHeap, Part, Times, part_lines}
-use Rattle.parser.specs.Spelling.{part_commands, with_newline, IsPart, says_something, Spells, IsLayout, IsCommand}
-use Rattle.parser.specs.Spelling.{IsScript}
-use Rattle.parser.specs.Faults.{text_of, BeginsScript, EndInBlock, HaveNoFault}
+use Rattle.parser.proofs.Names.{Bool, List, None, Option, Some, [], ap, append-nil, append_assoc, arith, false, inl}
+use Rattle.parser.proofs.Names.{inr, length, length-append, refl, subst, sym, true, ℕ, ◌++◌, ◌^◌, ◌∙◌, ◌∷◌, ◌≡◌, ◌≤◌}
+use Rattle.parser.proofs.Names.{cases_lt, nat_tests, flat_map-append, filter-append, decimal, AllByRecursion}
+use Rattle.parser.proofs.Names.{flat_map, repeat, Ok, codes, filter, map, ◌==◌, Layout, page_size_range, fits_page}
+use Rattle.parser.proofs.Names.{BeginsScript, HaveNoFault, text_of, config_of, ReadSoFar, ScriptValue, nothing}
+use Rattle.parser.proofs.Names.{script_of, line_in, IsCommand, IsLayout, IsPart, IsScript, Part, Spells, SpellsHeap}
+use Rattle.parser.proofs.Names.{Times, layout_line_of, line_of, part_commands, part_lines, says_something, size_words}
+use Rattle.parser.proofs.Names.{with_newline, Sizes, MOST_COMMANDS}
+use Rattle.parser.specs.Faults.{EndInBlock}
 use Rattle.parser.proofs.HeapLines.{IsSizes}
-use Rattle.parser.proofs.Plain.{no_newlines, words_no_newlines, number_plain, sizes_plain}
-use Rattle.parser.proofs.Ranges.{AreLayouts, config_in_range}
-use Rattle.parser.proofs.Lists.{HasNoNewlines, all_both, all_push, all_from, lines_from}
-use Rattle.parser.proofs.Parts.{HasTurns, say_end, more_commands, all_repeated}
-use Rattle.parser.proofs.ReadIsSpelled.{IsBehind, IsBefore, Said, line_ok, some_layouts}
-use Rattle.parser.proofs.ScriptIsSpelled.{all_said, commands_with, finished_ok}
-use Rattle.parser.proofs.TakenLines.{layout_taken, heap_taken}
+use Rattle.parser.proofs.Numbers.{number_plain}
+use Rattle.parser.proofs.Plain.{no_newlines, words_no_newlines, sizes_plain, lines_split, AreLayouts, config_in_range}
+use Rattle.parser.proofs.Lists.{HasNoNewlines, all_both, all_push, all_from, lines_from, told, filter_told, HasTurns}
+use Rattle.parser.proofs.Lists.{say_end, more_commands, all_repeated}
+use Rattle.parser.proofs.ScriptIsSpelled.{line_ok, read_is_spelled, all_said, commands_with}
+use Rattle.parser.proofs.OtherLines.{IsBehind, Said, some_layouts, IsReady, layout_taken, heap_taken}
+use Rattle.parser.specs.Reading.{script_in, lines_in}
+use Rattle.parser.proofs.SpelledIsRead.{Leads, leads_both, leads_read, end_read}
 
 -- ---- lines that spell a script
 
@@ -73,38 +61,30 @@ begins_front front back h = record {
   spelled = subst (λ (x : List ℕ). Spells x h.script) (append_assoc front back h.more) h.spelled;
 }
 
--- lines begin what they begin with one more line
-begins_before : (lines : List (List ℕ)) (line : List ℕ) → BeginsScript (text_of (lines ++ line ∷ []))
-    → BeginsScript (text_of lines)
-begins_before lines line h = begins_front (text_of lines) (text_of (line ∷ []))
-    (subst BeginsScript (flat_map-append with_newline lines (line ∷ [])) h)
-
 -- ---- no block is open
 
-finished_read : (r : ReadSoFar) (z : Sizes) → r.sizes ≡ Some z → 1 ≤ length r.layouts → r.turns ≡ None
-    → finished 0 r ≡ Ok (script_of (config_of z r.layouts) r.commands)
-unfolding finished
-finished_read r z sizes_is some none =
-    let layouts : (length r.layouts == 0) ≡ false = grind (arith, nat_tests) in
-    let whole_is : whole 0 r (Some z) ≡ closed 0 r z r.turns = rw layouts refl in
-    ap (λ (o : Option Sizes). whole 0 r o) sizes_is ∙ whole_is ∙ ap (λ (o : Option ℕ). closed 0 r z o) none
+pub leads_said : (lines said : List (List ℕ)) (r t : ReadSoFar) → Said said r → Leads lines r t
+    → Said (said ++ filter says_something lines) t
+leads_said [] said r t so_far h =
+    subst (λ (x : ReadSoFar). Said (said ++ []) x) h (rw (append-nil said) so_far)
+leads_said (line ∷ lines) said r t so_far h =
+    let after = line_ok said r h.0 line so_far h.1.0 in
+    let rest = leads_said lines (said ++ told says_something line) h.0 t after h.1.1 in
+    subst (λ (x : List (List ℕ)). Said x t) (append_assoc said (told says_something line) (filter says_something lines)
+    ∙ ap (λ (x : List (List ℕ)). said ++ x) (sym (filter_told says_something line lines))) rest
 
-closed_begins : (lines : List (List ℕ)) (r : ReadSoFar) (z : Sizes) → AllByRecursion HasNoNewlines lines
-    → Said (filter says_something lines) r → r.sizes ≡ Some z → 1 ≤ length r.layouts → r.turns ≡ None
+-- lines that are accepted, up to a script without an open block, begin a script
+leads_begin : (lines more : List (List ℕ)) (z : Sizes) (t : ReadSoFar) → AllByRecursion HasNoNewlines (lines ++ more)
+    → Leads (lines ++ more) nothing t → IsReady z t → 1 ≤ length t.layouts → t.turns ≡ None
     → BeginsScript (text_of lines)
-closed_begins lines r z each so_far sizes_is some none =
-    let s = script_of (config_of z r.layouts) r.commands in
-    let told = finished_ok 0 (filter says_something lines) r s so_far (finished_read r z sizes_is some none) in
-    let says : SaysScript (filter says_something (lines ++ [])) s = record {
-      heap = told.heap;
-      heap_spelled = told.heap_spelled;
-      parts = told.parts;
-      turns = told.turns;
-      commands_are = told.commands_are;
-      said_is = rw (append-nil lines) told.said_is;
-    } in
-    let whole_lines : AllByRecursion HasNoNewlines (lines ++ []) = rw (append-nil lines) each in
-    begins_by lines [] s told.script (lines_spell (lines ++ []) s whole_lines says)
+unfolding script_in
+leads_begin lines more z t each leads ready some none =
+    let s = script_of (config_of z t.layouts) t.commands in
+    let read = leads_read (lines ++ more) 1 nothing t leads in
+    let told : script_in (text_of (lines ++ more)) ≡ Ok s =
+    ap (lines_in 1 nothing) (lines_split (lines ++ more) each) ∙ read.1 ∙ end_read read.0 z t ready some none in
+    let all = read_is_spelled (text_of (lines ++ more)) s told in
+    begins_by lines more s all.script all.spelled
 
 -- ---- a block is open
 
@@ -180,25 +160,27 @@ layout_no_newlines : HasNoNewlines (layout_line_of small_layout)
 layout_no_newlines = words_no_newlines (codes "layout" ∷ decimal 0 ∷ decimal 0 ∷ [])
     (refl, (number_plain 0 (omega arith), (number_plain 0 (omega arith), tt)))
 
-bare_begins : (lines : List (List ℕ)) (r : ReadSoFar) → AllByRecursion HasNoNewlines lines
+-- a small layout is accepted after sizes
+small_taken : (r : ReadSoFar) (z : Sizes) → IsReady z r → r.begun ≡ false → length r.layouts ≡ 0
+    → line_in r (layout_line_of small_layout) ≡ Ok (record r { layouts = r.layouts ++ small_layout ∷ [] })
+small_taken r z ready not_begun empty =
+    let enough = (page_size_range z.words ready.range.words).0 in
+    let fits : fits_page z.words small_layout ≡ true = grind (arith, nat_tests) in
+    layout_taken z r small_layout (layout_line_of small_layout) ready not_begun (omega arith)
+    (record { refs = omega arith; nums = omega arith }) fits refl refl
+
+bare_begins : (lines : List (List ℕ)) (r : ReadSoFar) → AllByRecursion HasNoNewlines lines → Leads lines nothing r
     → IsBehind (filter says_something lines) r → (length r.layouts == 0) ≡ true → r.begun ≡ false
     → BeginsScript (text_of lines)
-bare_begins lines r each b none not_begun =
+bare_begins lines r each leads b none not_begun =
     let empty : length r.layouts ≡ 0 = grind (arith, nat_tests) in
-    let range = page_size_range b.sizes.words b.range.words in
-    let enough = range.0 in
-    let fits : fits_page b.sizes.words small_layout ≡ true = grind (arith, nat_tests) in
+    let ready : IsReady b.sizes r = record { sizes_is = b.sizes_is; range = b.range } in
     let line = layout_line_of small_layout in
     let t : ReadSoFar = record r { layouts = r.layouts ++ small_layout ∷ [] } in
-    let taken = layout_taken b.sizes r small_layout line (record { sizes_is = b.sizes_is; range = b.range }) not_begun
-    (omega arith) (record { refs = omega arith; nums = omega arith }) fits refl refl in
-    let so_far : Said (filter says_something (lines ++ line ∷ [])) t =
-    subst (λ (x : List (List ℕ)). Said x t) (sym (said_more lines line refl))
-    (line_ok (filter says_something lines) r t line (inr b) taken) in
     let longer = length-append r.layouts (small_layout ∷ []) in
-    let each_line = all_push HasNoNewlines lines line each layout_no_newlines in
-    begins_before lines line (closed_begins (lines ++ line ∷ []) t b.sizes each_line so_far b.sizes_is (omega arith)
-    (b.fresh not_begun).no_block)
+    leads_begin lines (line ∷ []) b.sizes t (all_push HasNoNewlines lines line each layout_no_newlines)
+    (leads_both lines (line ∷ []) nothing r t leads (t, (small_taken r b.sizes ready not_begun empty, refl)))
+    (record { sizes_is = b.sizes_is; range = b.range }) (omega arith) (b.fresh not_begun).no_block
 
 -- ---- the heap line is missing
 
@@ -255,23 +237,19 @@ small_no_newlines = words_no_newlines (codes "heap" ∷ size_words (config_of sm
   }),
 )
 
-behind_heap : (said : List (List ℕ)) (t : ReadSoFar) → t.sizes ≡ Some small_sizes → Said said t → IsBehind said t
-behind_heap said t some (inl before) =
-    let none : t.sizes ≡ None = ap (λ (x : ReadSoFar). x.sizes) before.is in absurd cc
-behind_heap said t some (inr behind) = behind
-
-empty_begins : (lines : List (List ℕ)) (r : ReadSoFar) → AllByRecursion HasNoNewlines lines
-    → IsBefore (filter says_something lines) r → BeginsScript (text_of lines)
-empty_begins lines r each before =
-    let t : ReadSoFar = record nothing { sizes = Some small_sizes } in
-    let taken : line_in r small_heap ≡ Ok t = subst (λ (x : ReadSoFar). line_in x small_heap ≡ Ok t) (sym before.is)
-    (heap_taken small_sizes small_heap small_in_range small_spelled refl) in
-    let so_far : Said (filter says_something (lines ++ small_heap ∷ [])) t =
-    subst (λ (x : List (List ℕ)). Said x t) (sym (said_more lines small_heap refl))
-    (line_ok (filter says_something lines) r t small_heap (inl before) taken) in
-    let each_line = all_push HasNoNewlines lines small_heap each small_no_newlines in
-    begins_before lines small_heap (bare_begins (lines ++ small_heap ∷ []) t each_line
-    (behind_heap (filter says_something (lines ++ small_heap ∷ [])) t refl so_far) refl refl)
+empty_begins : (lines : List (List ℕ)) (r : ReadSoFar) → AllByRecursion HasNoNewlines lines → Leads lines nothing r
+    → r ≡ nothing → BeginsScript (text_of lines)
+empty_begins lines r each leads is =
+    let line = layout_line_of small_layout in
+    let first : ReadSoFar = record nothing { sizes = Some small_sizes } in
+    let t : ReadSoFar = record first { layouts = small_layout ∷ [] } in
+    let ready : IsReady small_sizes first = record { sizes_is = refl; range = small_in_range } in
+    let heap = heap_taken small_sizes small_heap small_in_range small_spelled refl in
+    let taken : Leads (small_heap ∷ line ∷ []) r t = subst (λ (x : ReadSoFar). Leads (small_heap ∷ line ∷ []) x t)
+    (sym is) (first, (heap, (t, (small_taken first small_sizes ready refl refl, refl)))) in
+    leads_begin lines (small_heap ∷ line ∷ []) small_sizes t (all_both HasNoNewlines lines (small_heap ∷ line ∷ []) each
+    (small_no_newlines, (layout_no_newlines, tt))) (leads_both lines (small_heap ∷ line ∷ []) nothing r t leads taken)
+    (record { sizes_is = refl; range = small_in_range }) (omega arith) refl
 
 -- ---- all cases
 
@@ -283,17 +261,27 @@ not_started r false e h none = e
 
 behind_has_none : (lines : List (List ℕ)) (r : ReadSoFar) (b : IsBehind (filter says_something lines) r) (none : Bool)
     (o : Option ℕ) → (length r.layouts == 0) ≡ none → r.turns ≡ o → AllByRecursion HasNoNewlines lines
-    → HaveNoFault lines
-behind_has_none lines r b true o empty turns each =
-    inl (bare_begins lines r each b empty (not_started r r.begun refl b.started empty))
-behind_has_none lines r b false None some turns each =
-    inl (closed_begins lines r b.sizes each (inr b) b.sizes_is (some_layouts r.layouts some) turns)
-behind_has_none lines r b false (Some n) some turns each =
+    → Leads lines nothing r → HaveNoFault lines
+behind_has_none lines r b true o empty turns each leads =
+    inl (bare_begins lines r each leads b empty (not_started r r.begun refl b.started empty))
+behind_has_none lines r b false None some turns each leads =
+    let all = append-nil lines in
+    inl (leads_begin lines [] b.sizes r (rw all each) (rw all leads)
+    (record { sizes_is = b.sizes_is; range = b.range }) (some_layouts r.layouts some) turns)
+behind_has_none lines r b false (Some n) some turns each leads =
     block_has_none lines (open_ends lines r n each b (some_layouts r.layouts some) turns)
+
+-- what was read of lines that are accepted
+pub all_leads_said : (lines : List (List ℕ)) (r : ReadSoFar) → Leads lines nothing r
+    → Said (filter says_something lines) r
+all_leads_said lines r leads = leads_said lines [] nothing r (inl (record { said_is = refl; is = refl })) leads
 
 -- lines that are accepted have no fault
 pub taken_have_none : (lines : List (List ℕ)) (r : ReadSoFar) → AllByRecursion HasNoNewlines lines
-    → Said (filter says_something lines) r → HaveNoFault lines
-taken_have_none lines r each (inl before) = inl (empty_begins lines r each before)
-taken_have_none lines r each (inr behind) =
-    behind_has_none lines r behind (length r.layouts == 0) r.turns refl refl each
+    → Leads lines nothing r → HaveNoFault lines
+taken_have_none lines r each leads = by_said (all_leads_said lines r leads)
+  where
+    by_said : Said (filter says_something lines) r → HaveNoFault lines
+    by_said (inl before) = inl (empty_begins lines r each leads before.is)
+    by_said (inr behind) =
+        behind_has_none lines r behind (length r.layouts == 0) r.turns refl refl each leads

@@ -1,17 +1,12 @@
 -- The first line that is searched for is found line by line.
-use Rattle.std.proofs.Common.{◌≡◌, ℕ, suc, ◌+◌, ◌≤◌, Bool, true, false, cond, nat_lt, List, [], ◌∷◌, length, drop}
-use Rattle.std.proofs.Common.{Option, Some, None, position, refl, ap, sym, ◌∙◌, arith, get_or}
+use Rattle.parser.proofs.Names.{Bool, List, None, Option, Some, [], ap, arith, cond, drop, false, get_or, length}
+use Rattle.parser.proofs.Names.{nat_lt, position, refl, suc, sym, true, ℕ, ◌+◌, ◌∙◌, ◌∷◌, ◌≡◌, ◌≤◌, nat_tests}
+use Rattle.parser.proofs.Names.{position-Some, position_or_len, slice_split, CutsLine, first_word_in, newline}
+use Rattle.parser.proofs.Names.{first_word, fault_at, fault_of, is_sought, first_spot, cut_at, word_at, LineFault}
+use Rattle.parser.proofs.Names.{Sought}
 use Rattle.std.specs.Option.{option_map}
-use Rattle.std.specs.List.{slice_split, position_or_len}
-use Rattle.std.proofs.lemmas.Bool.Decides.{nat_tests}
-use Rattle.std.proofs.lemmas.List.Quantifiers.{position-Some}
-use Rattle.parser.specs.declared.fault.LineFault.{LineFault}
-use Rattle.parser.specs.declared.spots.Sought.{Sought}
-use Rattle.parser.specs.Words.{cut_at, word_at}
-use Rattle.parser.specs.Reading.{newline, first_word, first_word_in, CutsLine}
-use Rattle.parser.specs.Spots.{is_sought, fault_of, fault_at, first_spot}
 use Rattle.parser.proofs.Lists.{split_some, split_none}
-use Rattle.parser.proofs.Places.{space}
+use Rattle.parser.proofs.WordPlaces.{space}
 
 -- ---- the place of a line's second word
 
@@ -131,14 +126,12 @@ spot_here s n fault bytes line after cut h =
     by_test false e k = absurd cc
 
 -- if the first line isn't searched for, the search continues with the rest
-pub spot_later : (s : Sought) (n : ℕ) (bytes line after : List ℕ) → CutsLine bytes line after
-    → line_or s n line ≡ None
+pub spot_later : (s : Sought) (n : ℕ) (bytes line after : List ℕ) → CutsLine bytes line after → line_or s n line ≡ None
     → first_from s (n + 1) (slice_split newline after) ≡ first_from s n (slice_split newline bytes)
 spot_later s n bytes line after cut h =
     sym (ap (first_from s n) (cut_is bytes line after cut) ∙ by_test (is_sought s line) refl h)
   where
-    by_test : (b : Bool) → is_sought s line ≡ b
-        → cond b (Some (fault_at (fault_of s) n line)) None ≡ None
+    by_test : (b : Bool) → is_sought s line ≡ b → cond b (Some (fault_at (fault_of s) n line)) None ≡ None
         → first_from s n (line ∷ slice_split newline after) ≡ first_from s (n + 1) (slice_split newline after)
     by_test true e k = absurd cc
     by_test false e k = passed s n line (slice_split newline after) e

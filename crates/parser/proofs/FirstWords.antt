@@ -1,10 +1,8 @@
 -- The first word of a line exists, so it is read only once.
-use Rattle.std.proofs.Common.{◌≡◌, ℕ, Bool, true, false, cond, List, length, drop, refl, ap, sym, ◌∙◌, arith}
-use Rattle.std.specs.Prelude.{Some, None, Ok, nat_lt, position, ◌==◌}
-use Rattle.std.proofs.lemmas.Bool.Decides.{nat_tests}
+use Rattle.parser.proofs.Names.{Bool, List, None, Some, ap, arith, cond, drop, false, length, nat_lt, position, refl}
+use Rattle.parser.proofs.Names.{sym, true, ℕ, ◌∙◌, ◌≡◌, nat_tests, Ok, ◌==◌, first_word_in, first_word, cut_at, flaw}
+use Rattle.parser.proofs.Names.{named_in, or_flaw, ◌>>=◌, named_at, word_at, word_or}
 use Rattle.parser.specs.declared.fault.FaultKind.TheVariants as kinds
-use Rattle.parser.specs.Words.{◌>>=◌, or_flaw, flaw, cut_at, word_at, word_or, named_in, named_at}
-use Rattle.parser.specs.Reading.{first_word, first_word_in}
 
 -- a word that exists
 is_there : (b : Bool) (x : List ℕ × ℕ) (at : ℕ) → b ≡ false

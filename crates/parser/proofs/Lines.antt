@@ -1,9 +1,7 @@
 -- Cutting lines off the beginning of a script.
-use Rattle.std.proofs.Common.{◌≡◌, ℕ, ◌+◌, List, ◌∷◌, length, take, drop, Some, None, refl, ap, sym, ◌∙◌, position}
-use Rattle.std.specs.Prelude.{Ok, Err}
-use Rattle.std.specs.List.{slice_split}
-use Rattle.parser.specs.declared.fault.LineFault.{LineFault}
-use Rattle.parser.specs.Reading.{newline, CutsLine, ReadSoFar, lines_in, last_line, goes_on, in_line, line_in}
+use Rattle.parser.proofs.Names.{List, None, Some, ap, drop, length, position, refl, sym, take, ℕ, ◌+◌, ◌∙◌, ◌∷◌, ◌≡◌}
+use Rattle.parser.proofs.Names.{slice_split, Err, Ok, CutsLine, ReadSoFar, goes_on, in_line, newline, last_line}
+use Rattle.parser.proofs.Names.{line_in, lines_in, LineFault}
 use Rattle.parser.proofs.Lists.{IsCons, split_cons, split_some, split_none}
 
 -- a line that isn't the last is followed by the others

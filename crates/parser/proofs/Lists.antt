@@ -1,14 +1,13 @@
--- Lists of lines, and lists that are cut at each element that passes a test.
-use Rattle.std.proofs.Common.{◌≡◌, ◌≢◌, ℕ, zero, suc, Bool, true, false, cond, List, [], ◌∷◌, ◌++◌, refl, sym, ap}
-use Rattle.std.proofs.Common.{◌∙◌, arith, append_assoc, append-nil, ◌+◌, ◌<◌, ◌≤◌, length, take, drop, Some, None}
-use Rattle.std.proofs.Common.{position}
-use Rattle.std.specs.Prelude.{filter}
-use Rattle.std.specs.List.{All, AllByRecursion, join_with_byte, flat_map, slice_split, onto_first, position_or_len}
-use Rattle.std.proofs.lemmas.Bool.Decides.{nat_tests}
-use Rattle.parser.specs.Reading.{newline}
-use Rattle.parser.specs.Spelling.{with_newline, IsLine}
-use Rattle.std.proofs.lemmas.List.Splits.{slice_split_first, slice_split_none}
-use Rattle.std.proofs.lemmas.List.Quantifiers.{position-Some}
+-- Lists, lines and the commands of parts.
+use Rattle.parser.proofs.Names.{List, None, Option, Some, [], ap, append-nil, append_assoc, arith, length}
+use Rattle.parser.proofs.Names.{length-append, refl, suc, sym, true, zero, ℕ, ◌*◌, ◌++◌, ◌+◌, ◌∙◌, ◌∷◌, ◌≡◌, ◌≤◌}
+use Rattle.parser.proofs.Names.{nat_tests, flat_map-append, map-append, AllByRecursion, flat_map, repeat, codes, map}
+use Rattle.parser.proofs.Names.{◌==◌, One, Part, Times, command_line_of, part_commands, part_lines, times_line_of}
+use Rattle.parser.proofs.Names.{Command, MOST_TURNS, Bool, cond, drop, false, position, take, ◌<◌, ◌≢◌, position-Some}
+use Rattle.parser.proofs.Names.{slice_split_none, All, join_with_byte, onto_first, position_or_len, slice_split}
+use Rattle.parser.proofs.Names.{filter, newline, with_newline}
+use Rattle.parser.specs.Spelling.{IsLine}
+use Rattle.std.proofs.lemmas.List.Splits.{slice_split_first}
 use Rattle.std.proofs.lemmas.List.Sums.{position_or_len_is, fails_before_first}
 use Rattle.model.proofs.Lists.{none_far}
 
@@ -53,6 +52,10 @@ pub all_front : {A : Type 0} (P : A → Type 0) (xs ys : List A) → AllByRecurs
 all_front P [] ys h = tt
 all_front P (x ∷ xs) ys h = (h.0, all_front P xs ys h.1)
 
+pub all_back : {A : Type 0} (P : A → Type 0) (xs ys : List A) → AllByRecursion P (xs ++ ys) → AllByRecursion P ys
+all_back P [] ys h = h
+all_back P (x ∷ xs) ys h = all_back P xs ys h.1
+
 -- the lines that pass, with a first line
 abbrev pub told : (List ℕ → Bool) → List ℕ → List (List ℕ)
 told p line = cond (p line) (line ∷ []) []
@@ -75,16 +78,16 @@ first_line : (x : ℕ) (parts : List (List ℕ)) → x ≢ 10 → AllByRecursion
 first_line x [] ne h = ((ne, tt), tt)
 first_line x (part ∷ parts) ne h = ((ne, h.0), h.1)
 
-part_lines : (x : ℕ) (xs : List ℕ) (b : Bool) → newline x ≡ b → AllByRecursion HasNoNewlines (slice_split newline xs)
+split_more : (x : ℕ) (xs : List ℕ) (b : Bool) → newline x ≡ b → AllByRecursion HasNoNewlines (slice_split newline xs)
     → AllByRecursion HasNoNewlines (slice_split newline (x ∷ xs))
-part_lines x xs true e h = rw e (tt, h)
-part_lines x xs false e h =
+split_more x xs true e h = rw e (tt, h)
+split_more x xs false e h =
     let ne : x ≢ 10 = grind (arith, nat_tests) in rw e (first_line x (slice_split newline xs) ne h)
 
 -- a part has no newline
 pub split_lines : (bytes : List ℕ) → AllByRecursion HasNoNewlines (slice_split newline bytes)
 split_lines [] = (tt, tt)
-split_lines (x ∷ xs) = part_lines x xs (newline x) refl (split_lines xs)
+split_lines (x ∷ xs) = split_more x xs (newline x) refl (split_lines xs)
 
 -- what is cut has a first part
 pub record IsCons (xs : List (List ℕ)) : Type 0 where
@@ -117,3 +120,97 @@ split_none p xs h =
     let far : length xs ≤ position_or_len p xs = none_far (position_or_len p xs) (length xs) h in
     let none : All (λ x. p x ≡ false) xs = λ k d le. fails_before_first p xs k d (omega (arith, far, le)) in
     slice_split_none p xs none
+
+-- the lines of the open block so far
+abbrev pub open_lines : Option ℕ → List Command → List (List ℕ)
+open_lines None body = []
+open_lines (Some turns) body = times_line_of turns ∷ map command_line_of body
+
+-- the open block has a valid number of turns
+abbrev pub HasTurns : Option ℕ → Type 0
+HasTurns None = Unit {0}
+HasTurns (Some turns) = (1 ≤ turns) × (turns ≤ MOST_TURNS)
+
+-- ---- one line more
+
+-- a command outside a block
+pub say_one : (front : List (List ℕ))
+    (parts : List Part) (c : Command) (said : List (List ℕ)) (line : List ℕ) (o : Option ℕ) (body : List Command)
+    → o ≡ None → line ≡ command_line_of c → said ≡ front ++ (flat_map part_lines parts ++ open_lines o body)
+    → said ++ line ∷ [] ≡ front ++ (flat_map part_lines (parts ++ One c ∷ []) ++ open_lines o body)
+say_one front parts c said line o body none is h =
+    rw (h, none, is) (simp (append_assoc, append-nil, flat_map-append))
+
+-- a command in a block
+pub say_inside : (front : List (List ℕ)) (parts : List Part) (turns : ℕ) (c : Command)
+    (said : List (List ℕ)) (line : List ℕ) (o : Option ℕ) (body : List Command)
+    → o ≡ Some turns → line ≡ command_line_of c → said ≡ front ++ (flat_map part_lines parts ++ open_lines o body)
+    → said ++ line ∷ [] ≡ front ++ (flat_map part_lines parts ++ open_lines o (body ++ c ∷ []))
+say_inside front parts turns c said line o body some is h =
+    rw (h, some, is) (simp (append_assoc, map-append))
+
+-- a block begins
+pub say_times : (front : List (List ℕ))
+    (parts : List Part) (turns : ℕ) (said : List (List ℕ)) (line : List ℕ) (o : Option ℕ) (body : List Command)
+    → o ≡ None → line ≡ times_line_of turns → said ≡ front ++ (flat_map part_lines parts ++ open_lines o body)
+    → said ++ line ∷ [] ≡ front ++ (flat_map part_lines parts ++ open_lines (Some turns) [])
+say_times front parts turns said line o body none is h = rw (h, none, is) (simp (append_assoc, append-nil))
+
+-- a block ends
+pub say_end : (front : List (List ℕ))
+    (parts : List Part) (turns : ℕ) (said : List (List ℕ)) (line : List ℕ) (o : Option ℕ) (body : List Command)
+    → o ≡ Some turns → line ≡ codes "end" → said ≡ front ++ (flat_map part_lines parts ++ open_lines o body)
+    → said ++ line ∷ [] ≡ front ++ (flat_map part_lines (parts ++ Times turns body ∷ []) ++ open_lines None [])
+say_end front parts turns said line o body some is h =
+    rw (h, some, is) (simp (append_assoc, append-nil, flat_map-append))
+
+-- ---- commands
+
+-- one more part adds its commands
+pub more_commands : (parts : List Part) (p : Part) (cs : List Command) → cs ≡ flat_map part_commands parts →
+    cs ++ part_commands p ≡ flat_map part_commands (parts ++ p ∷ [])
+more_commands parts p cs h = rw (h, flat_map-append part_commands parts (p ∷ []), append-nil (part_commands p)) refl
+
+pub all_repeated : (P : Command → Type 0) (n : ℕ) (cs : List Command) → AllByRecursion P cs
+    → AllByRecursion P (repeat n cs)
+all_repeated P zero cs h = tt
+all_repeated P (suc n) cs h = all_both P cs (repeat n cs) h (all_repeated P n cs h)
+
+one_turn : (n k : ℕ) → suc n * k ≡ k + n * k
+one_turn n k = grind arith
+
+no_turn : (k : ℕ) → 0 ≡ 0 * k
+no_turn k = omega arith
+
+pub repeated_length : (n : ℕ) (cs : List Command) → length (repeat n cs) ≡ n * length cs
+repeated_length zero cs = no_turn (length cs)
+repeated_length (suc n) cs = length-append cs (repeat n cs) ∙ ap (λ k. length cs + k) (repeated_length n cs)
+    ∙ sym (one_turn n (length cs))
+
+-- what holds for repeated commands holds for them
+pub all_of_repeated : (P : Command → Type 0) (n : ℕ) (cs : List Command) → 1 ≤ n → AllByRecursion P (repeat n cs)
+    → AllByRecursion P cs
+all_of_repeated P zero cs some h = absurd (omega arith)
+all_of_repeated P (suc n) cs some h = all_front P cs (repeat n cs) h
+
+-- repeating no commands gives none
+none_repeated : (n : ℕ) → repeat {A = Command} n [] ≡ []
+none_repeated zero = refl
+none_repeated (suc n) = none_repeated n
+
+pub add_none : (n : ℕ) (cs body : List Command) → (length body == 0) ≡ true → cs ≡ cs ++ repeat n body
+add_none n cs [] h = sym (append-nil cs) ∙ ap (λ (xs : List Command). cs ++ xs) (sym (none_repeated n))
+add_none n cs (c ∷ body) h = absurd (grind (arith, nat_tests))
+
+turned : (n : ℕ) (cs : List Command) → repeat n cs ++ cs ≡ cs ++ repeat n cs
+turned zero cs = sym (append-nil cs)
+turned (suc n) cs = append_assoc cs (repeat n cs) cs ∙ ap (λ (xs : List Command). cs ++ xs) (turned n cs)
+
+once_more : (n : ℕ) (cs : List Command) → repeat n cs ++ cs ≡ repeat (n + 1) cs
+once_more n cs = let e : suc n ≡ n + 1 = omega arith in turned n cs ∙ ap (λ k. repeat k cs) e
+
+-- one more turn after the turns so far
+pub add_turn : (n : ℕ) (before cs so_far new : List Command) → so_far ≡ before ++ repeat n cs → new ≡ so_far ++ cs
+    → new ≡ before ++ repeat (n + 1) cs
+add_turn n before cs so_far new h k = k ∙ ap (λ (xs : List Command). xs ++ cs) h ∙ append_assoc before (repeat n cs) cs
+    ∙ ap (λ (xs : List Command). before ++ xs) (once_more n cs)

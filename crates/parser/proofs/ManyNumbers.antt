@@ -1,19 +1,120 @@
--- Numbers to the end of a line: what is read is spelled so, and what is spelled so is read.
-use Rattle.std.proofs.Common.{◌≡◌, ℕ, zero, suc, ◌+◌, ◌<◌, ◌≤◌, ◌^◌, cond, nat_lt, List, [], ◌∷◌, ◌++◌, length}
-use Rattle.std.proofs.Common.{refl, sym, ap, subst, ◌∙◌, arith, inl, inr, append_assoc, append-nil}
-use Rattle.std.specs.Prelude.{Result, Ok, Err, map, not, ◌||◌}
-use Rattle.std.specs.List.{AllByRecursion}
-use Rattle.std.specs.Fmt.{decimal}
-use Rattle.std.proofs.lemmas.Bool.{cases_lt, lt-ltb, le-ltb}
-use Rattle.std.proofs.lemmas.Option.{same_Some}
-use Rattle.model.proofs.Results.{same_result, not_refused}
-use Rattle.parser.specs.declared.fault.FaultKind.{FaultKind}
+-- Addresses, and numbers to the end of a line: what is spelled so is read.
+use Rattle.parser.proofs.Names.{Bool, List, None, Option, Some, [], ap, arith, cond, drop, false, length}
+use Rattle.parser.proofs.Names.{length-append, nat_lt, position, refl, subst, sym, take, true, ℕ, ◌++◌, ◌+◌, ◌<◌, ◌^◌}
+use Rattle.parser.proofs.Names.{◌∙◌, ◌∷◌, ◌≡◌, take-append_seam, and_parts, lt-ltb, nat_tests, list_all-append}
+use Rattle.parser.proofs.Names.{join_with_byte-slice_split, same_Some, decimal, AllByRecursion, join_with_byte}
+use Rattle.parser.proofs.Names.{list_all, position_or_len, slice_split, Ok, nat_le, not, ◌==◌, address_word}
+use Rattle.parser.proofs.Names.{address_in, address_number, is_digit, offset_in, page_in, address_at, point_parts}
+use Rattle.parser.proofs.Names.{append-nil, append_assoc, inl, inr, suc, zero, ◌≤◌, cases_lt, le-ltb, Err, Result}
+use Rattle.parser.proofs.Names.{map, ◌||◌, not_refused, same_result, numbers_at, numbers_by, flaw, in_range, ◌>>=◌}
+use Rattle.parser.proofs.Names.{capped_from, is_number, number_at, small_at, word_at, word_or, FaultKind, Flaw}
+use Rattle.std.proofs.Math.Seq.{drop-append-add}
+use Rattle.parser.specs.Words.{parts_at}
+use Rattle.parser.proofs.Lists.{split_cons, split_some}
+use Rattle.parser.proofs.Numbers.{IsPlain, number_plain, number_read, decimal_digits}
+use Rattle.parser.proofs.WordPlaces.{words_from, Reads, word_again, bind_ok, or_flaw_ok, past_end, end_past}
+use Rattle.parser.proofs.WordPlaces.{small_again, finds_word, none_past}
 use Rattle.parser.specs.declared.fault.FaultKind.TheVariants as kinds
-use Rattle.parser.specs.declared.fault.Flaw.{Flaw}
-use Rattle.parser.specs.Words.{◌>>=◌, flaw, word_at, word_or, is_number, capped_from, in_range, number_at, small_at}
-use Rattle.parser.specs.Orders.{numbers_by, numbers_at}
-use Rattle.parser.proofs.Places.{words_from, Reads, bind_ok, or_flaw_ok, past_end, end_past, small_ok, small_again}
-use Rattle.parser.proofs.WordPlaces.{finds_word, none_past}
+
+-- ---- the parts of a word
+
+-- the byte between a page and an offset
+abbrev point : ℕ → Bool
+point b = b == 46
+
+-- a word with a period at this place is its parts with the period between them
+parts_joined : (word : List ℕ) (i : ℕ) → position point word ≡ Some i → word ≡ take i word ++ (46 ∷ drop (i + 1) word)
+parts_joined word i h =
+    let rest = split_cons point (drop (i + 1) word) in
+    let cut : slice_split point word ≡ take i word ∷ (rest.first ∷ rest.others) =
+    split_some point word i h ∙ ap (λ (x : List (List ℕ)). take i word ∷ x) rest.is in
+    let joined : join_with_byte 46 (rest.first ∷ rest.others) ≡ drop (i + 1) word =
+    ap (join_with_byte 46) (sym rest.is) ∙ join_with_byte-slice_split 46 (drop (i + 1) word) in
+    sym (join_with_byte-slice_split 46 word) ∙ ap (join_with_byte 46) cut
+    ∙ ap (λ (x : List ℕ). take i word ++ (46 ∷ x)) joined
+
+-- the two parts with a period between them are the word
+pub parts_are : (word : List ℕ) (parts : List ℕ × List ℕ) → point_parts word ≡ Some parts
+    → word ≡ parts.0 ++ (46 ∷ parts.1)
+unfolding point_parts
+parts_are word parts h = by_place (position point word) refl h
+  where
+    by_place : (o : Option ℕ) → position point word ≡ o → parts_at word o ≡ Some parts
+        → word ≡ parts.0 ++ (46 ∷ parts.1)
+    by_place None e k = absurd cc
+    by_place (Some i) e k =
+        subst (λ (x : List ℕ × List ℕ). word ≡ x.0 ++ (46 ∷ x.1))
+        (same_Some (take i word, drop (i + 1) word) parts k) (parts_joined word i e)
+
+-- no byte is a period
+abbrev HasNoPoint : List ℕ → Type 0
+HasNoPoint bytes = AllByRecursion (λ b. point b ≡ false) bytes
+
+digits_no_point : (ds : List ℕ) → list_all is_digit ds ≡ true → HasNoPoint ds
+digits_no_point [] h = tt
+digits_no_point (b ∷ bs) h =
+    let p = and_parts (is_digit b) (list_all is_digit bs) h in
+    let digit = p.0 in
+    let no : point b ≡ false = grind (arith, nat_tests) in
+    (no, digits_no_point bs p.1)
+
+first_point : (front back : List ℕ) → HasNoPoint front → position_or_len point (front ++ (46 ∷ back)) ≡ length front
+first_point [] back h = refl
+first_point (b ∷ bs) back h =
+    let rest = first_point bs back h.1 in
+    ap (λ (t : Bool). cond (not t) (1 + position_or_len point (bs ++ (46 ∷ back))) 0) h.0 ∙ omega arith
+
+at_point : (front back : List ℕ) → HasNoPoint front → position point (front ++ (46 ∷ back)) ≡ Some (length front)
+at_point front back h =
+    let at = first_point front back h in
+    let longer = length-append front (46 ∷ back) in
+    let inside : nat_lt (length front) (length (front ++ (46 ∷ back))) ≡ true =
+    lt-ltb (length front) (length (front ++ (46 ∷ back))) (omega arith) in
+    ap (λ (k : ℕ). cond (nat_lt k (length (front ++ (46 ∷ back)))) (Some k) None) at ∙ rw inside refl
+
+-- parts with a period between them, of which the first has none, are a word's parts
+parts_again : (front back : List ℕ) → HasNoPoint front → point_parts (front ++ (46 ∷ back)) ≡ Some (front, back)
+unfolding point_parts
+parts_again front back h =
+    rw (at_point front back h, take-append_seam front (46 ∷ back), drop-append-add front (46 ∷ back) 1) refl
+
+-- ---- pages and offsets
+
+-- a page and an offset are those of their number
+pub page_again : (page offset : ℕ) → offset < 2 ^ 32 → page_in (address_number page offset) ≡ page
+page_again page offset h = omega arith
+
+pub offset_again : (page offset : ℕ) → offset < 2 ^ 32 → offset_in (address_number page offset) ≡ offset
+offset_again page offset h = omega arith
+
+number_again : (n : ℕ) → address_number (page_in n) (offset_in n) ≡ n
+number_again n = omega arith
+
+-- ---- an address
+
+pub address_again : (line : List ℕ) (at words n : ℕ) (ws : List (List ℕ)) → n < 2 ^ 64 → offset_in n < words
+    → words_from line at ≡ address_word (page_in n) (offset_in n) ∷ ws → Reads line (address_at line at words) n ws
+unfolding address_at
+address_again line at words n ws fits within h =
+    let page = decimal (page_in n) in
+    let offset = decimal (offset_in n) in
+    let w = word_again line at kinds.UnknownWord (address_word (page_in n) (offset_in n)) ws h in
+    let parts = parts_again page offset (digits_no_point page (decimal_digits (page_in n) (omega arith))) in
+    let page_read = number_read (page_in n) (omega arith) in
+    let offset_read = number_read (offset_in n) (omega arith) in
+    let page_fits : nat_le (2 ^ 32) (page_in n) ≡ false = grind (arith, nat_tests) in
+    let offset_fits : nat_le words (offset_in n) ≡ false = grind (arith, nat_tests) in
+    let read : address_in (page, offset) w.0 at words ≡ Ok (n, w.0) =
+    rw (page_read.0, page_read.1, offset_read.0, offset_read.1, page_fits, offset_fits)
+    (ap (λ (x : ℕ). Ok (x, w.0)) (number_again n)) in
+    (w.0, rw (w.1, parts) read, w.2)
+
+-- an address has no spaces
+pub address_plain : (n : ℕ) → n < 2 ^ 64 → IsPlain (address_word (page_in n) (offset_in n))
+address_plain n h =
+    let page = number_plain (page_in n) (omega arith) in
+    let offset = number_plain (offset_in n) (omega arith) in
+    list_all-append (λ b. nat_lt 32 b) (decimal (page_in n)) (46 ∷ decimal (offset_in n)) ∙ (rw (page, offset) refl)
 
 -- ---- places
 
@@ -137,9 +238,8 @@ broken line at place ns f h within read =
     h ∙ ap (with_firsts ns) (numbers_first line place within
     ∙ ap (λ (r : Result (ℕ × ℕ) Flaw). r >>= (λ v. with_first v (numbers_at line v.1))) read)
 
-pub ended : (line : List ℕ) (at place : ℕ) (ns : List ℕ)
-    → numbers_at line at ≡ with_firsts ns (numbers_at line place) → length line < place
-    → numbers_at line at ≡ Ok (ns, place)
+pub ended : (line : List ℕ) (at place : ℕ) (ns : List ℕ) → numbers_at line at ≡ with_firsts ns (numbers_at line place)
+    → length line < place → numbers_at line at ≡ Ok (ns, place)
 ended line at place ns h past =
     h ∙ ap (with_firsts ns) (numbers_past line place past) ∙ ap (λ (xs : List ℕ). Ok (xs, place)) (append-nil ns)
 
@@ -148,34 +248,6 @@ ended line at place ns h past =
 -- each number fits 32 bits
 abbrev pub AreSmall : List ℕ → Type 0
 AreSmall ns = AllByRecursion (λ n. n < 2 ^ 32) ns
-
--- numbers are spelled from a place on
-pub record AreNumbersAt (line : List ℕ) (at : ℕ) (v : List ℕ × ℕ) : Type 0 where
-  pub spelled : words_from line at ≡ map decimal v.0 ++ words_from line v.1
-  pub small : AreSmall v.0
-
-by_ok : (n : ℕ) (line : List ℕ) (at : ℕ) (v : List ℕ × ℕ) → numbers_by n line at ≡ Ok v → AreNumbersAt line at v
-unfolding numbers_by
-by_ok zero line at v h =
-    subst (AreNumbersAt line at) (same_result ([], at) v h) (record { spelled = refl; small = tt })
-by_ok (suc n) line at v h = elim (cases_lt (length line) at) [
-  | inl past ↦
-      subst (AreNumbersAt line at) (same_result ([], at) v (sym (by_past (suc n) line at past) ∙ h))
-      (record { spelled = refl; small = tt })
-  | inr within ↦
-      let a = bind_ok (small_at line at) _ v (sym (by_first n line at within) ∙ h) in
-      let b = bind_ok (numbers_by n line a.0.1) _ v a.2 in
-      let first = small_ok line at a.0 a.1 in
-      let others = by_ok n line a.0.1 b.0 b.1 in
-      subst (AreNumbersAt line at) (same_result (a.0.0 ∷ b.0.0, b.0.1) v b.2) (record {
-        spelled = first.spelled ∙ ap (λ (ws : List (List ℕ)). decimal a.0.0 ∷ ws) others.spelled;
-        small = (omega (arith, first.below), others.small);
-      })
-]
-
-pub numbers_ok : (line : List ℕ) (at : ℕ) (v : List ℕ × ℕ) → numbers_at line at ≡ Ok v → AreNumbersAt line at v
-unfolding numbers_at
-numbers_ok line at v h = by_ok (length line + 1) line at v h
 
 pub numbers_again : (line : List ℕ) (at : ℕ) (ns : List ℕ) → AreSmall ns → words_from line at ≡ map decimal ns
     → Reads line (numbers_at line at) ns []

@@ -1,15 +1,14 @@
 -- Numbers in words are read as they are spelled.
-use Rattle.std.proofs.Common.{◌≡◌, ℕ, ◌+◌, ◌-◌, ◌*◌, ◌^◌, ◌<◌, Bool, true, false, List, []}
-use Rattle.std.proofs.Common.{◌∷◌, length, get_or, refl, ap, ◌∙◌, arith, rules, inl, inr}
-use Rattle.std.specs.Prelude.{◌&&◌, ◌||◌, not, min, ◌==◌}
-use Rattle.std.specs.List.{list_all}
-use Rattle.std.specs.Fmt.{decimal}
-use Rattle.std.proofs.lemmas.Bool.Decides.{nat_tests}
-use Rattle.std.proofs.lemmas.Fmt.{decimal-digits_value, digits_decimal, digits_value-decimal}
-use Rattle.std.proofs.lemmas.Fmt.{decimal_nonempty, decimal_digit, first_decimal}
-use Rattle.std.proofs.lemmas.Bool.{cases_lt, and_parts, or_cases, or_right}
+use Rattle.parser.proofs.Names.{Bool, List, [], ap, arith, false, get_or, inl, inr, length, nat_lt, refl, true, ℕ}
+use Rattle.parser.proofs.Names.{◌*◌, ◌+◌, ◌<◌, ◌^◌, ◌∙◌, ◌∷◌, ◌≡◌, and_parts, cases_lt, nat_tests, decimal_digit}
+use Rattle.parser.proofs.Names.{first_decimal, decimal, list_all, not, ◌&&◌, ◌==◌, ◌||◌, is_digit, capped_from}
+use Rattle.parser.proofs.Names.{is_number}
+use Rattle.std.proofs.Common.{◌-◌, rules}
+use Rattle.std.specs.Prelude.{min}
+use Rattle.std.proofs.lemmas.Fmt.{decimal-digits_value, digits_decimal, digits_value-decimal, decimal_nonempty}
+use Rattle.std.proofs.lemmas.Bool.{or_cases, or_right}
 use Rattle.std.proofs.lemmas.Str.Parse.{IsNumeralModel, IsDigitsTest, FoldsDigits, numerals_by_fold}
-use Rattle.parser.specs.Words.{is_digit, starts_with_zero, is_number, capped_from}
+use Rattle.parser.specs.Words.{starts_with_zero}
 
 -- the number that digits represent after earlier ones
 abbrev value_from : ℕ → List ℕ → ℕ
@@ -102,3 +101,20 @@ number_read n h =
           || not (starts_with_zero (decimal n))) nonempty (digits_decimal own n h) (canonical_decimal n h),
       omega (arith, capped_whole (decimal n), value),
     )
+
+-- ---- plain words
+
+-- each byte of a word is above the space: none is a space or a newline
+abbrev pub IsPlain : List ℕ → Type 0
+IsPlain w = list_all (λ b. nat_lt 32 b) w ≡ true
+
+digits_plain : (ds : List ℕ) → list_all is_digit ds ≡ true → IsPlain ds
+digits_plain [] h = refl
+digits_plain (b ∷ bs) h =
+    let p = and_parts (is_digit b) (list_all is_digit bs) h in
+    let digit = p.0 in
+    let high : nat_lt 32 b ≡ true = grind (arith, nat_tests) in
+    rw high (digits_plain bs p.1)
+
+pub number_plain : (n : ℕ) → n < 2 ^ 64 → IsPlain (decimal n)
+number_plain n h = digits_plain (decimal n) (decimal_digits n h)

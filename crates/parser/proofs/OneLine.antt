@@ -1,15 +1,10 @@
 -- All first faults of a text are in one line.
-use Rattle.std.proofs.Common.{◌≡◌, ℕ, ◌+◌, ◌<◌, List, [], ◌∷◌, ◌++◌, length, refl, sym, ap, subst, ◌∙◌, arith}
-use Rattle.std.proofs.Common.{inl, inr, append-nil, append_assoc}
-use Rattle.std.specs.List.{slice_split}
-use Rattle.std.proofs.lemmas.Bool.{cases_lt}
-use Rattle.std.proofs.lemmas.Grind.{flat_map-append}
-use Rattle.std.proofs.lemmas.List.Splits.{slice_split-cons_yes}
-use Rattle.parser.specs.declared.fault.LineFault.{LineFault}
-use Rattle.parser.specs.Reading.{newline}
-use Rattle.parser.specs.Spelling.{with_newline}
-use Rattle.parser.specs.Faults.{text_of, BeginsScript, HaveNoFault, IsLineEnd, IsWordEnd, byte_behind, StandsInLine}
-use Rattle.parser.specs.Faults.{StandsAtEnd, LacksNewline, IsFirstFault, HasNoLargeBlock, FaultsShareLine}
+use Rattle.parser.proofs.Names.{List, [], ap, append-nil, append_assoc, arith, inl, inr, length, refl, subst, sym, ℕ}
+use Rattle.parser.proofs.Names.{◌++◌, ◌+◌, ◌<◌, ◌∙◌, ◌∷◌, ◌≡◌, cases_lt, flat_map-append, slice_split-cons_yes}
+use Rattle.parser.proofs.Names.{slice_split, BeginsScript, HaveNoFault, IsFirstFault, IsLineEnd, IsWordEnd}
+use Rattle.parser.proofs.Names.{LacksNewline, StandsAtEnd, StandsInLine, byte_behind, text_of, newline, whole}
+use Rattle.parser.proofs.Names.{with_newline, LineFault}
+use Rattle.parser.specs.Faults.{HasNoLargeBlock, FaultsShareLine}
 use Rattle.parser.proofs.Lists.{HasNoNewlines, all_to, lines_to}
 use Rattle.parser.proofs.Completions.{begins_front}
 use Rattle.parser.proofs.Stops.{text_split, line_more}
@@ -32,8 +27,7 @@ no_large bytes lines more small is (inl begins) = begins
 no_large bytes lines more small is (inr large) = absurd (small lines more is large)
 
 text_more : (lines : List (List ℕ)) (line : List ℕ) → text_of (lines ++ line ∷ []) ≡ text_of lines ++ (line ++ 10 ∷ [])
-text_more lines line = flat_map-append with_newline lines (line ∷ [])
-    ∙ ap (λ (x : List ℕ). text_of lines ++ x) (append-nil (line ++ 10 ∷ []))
+text_more lines line = simp (flat_map-append, append-nil)
 
 -- the parts of a line and what follows it
 behind_cut : (line behind : List ℕ) → HasNoNewlines line → IsLineEnd behind
@@ -53,25 +47,10 @@ behind_cut line behind own (inr more) = (
 -- the end of a word is in its line or the newline after it
 word_in_line : (front word back : List ℕ) → IsWordEnd back → (rest : List ℕ) ×
     ((front ++ (word ++ back)) ++ 10 ∷ [] ≡ (front ++ (word ++ byte_behind back ∷ [])) ++ rest)
-word_in_line front word back (inl none) =
-    let parts = λ (x : List ℕ). append_assoc front (word ++ x) (10 ∷ [])
-    ∙ ap (λ (y : List ℕ). front ++ y) (append_assoc word x (10 ∷ [])) in (
-      [],
-      subst (λ (x : List ℕ). (front ++ (word ++ x)) ++ 10 ∷ [] ≡ (front ++ (word ++ byte_behind x ∷ [])) ++ [])
-          (sym none) (parts [] ∙ sym (append-nil (front ++ (word ++ 10 ∷ [])))),
-    )
-word_in_line front word back (inr more) =
-    let left = append_assoc front (word ++ 32 ∷ more.0) (10 ∷ [])
-    ∙ ap (λ (y : List ℕ). front ++ y) (append_assoc word (32 ∷ more.0) (10 ∷ [])) in
-    let right = append_assoc front (word ++ 32 ∷ []) (more.0 ++ 10 ∷ [])
-    ∙ ap (λ (y : List ℕ). front ++ y) (append_assoc word (32 ∷ []) (more.0 ++ 10 ∷ [])) in (
-      more.0 ++ 10 ∷ [],
-      subst (λ (x : List ℕ). (front ++ (word ++ x)) ++ 10 ∷ []
-          ≡ (front ++ (word ++ byte_behind x ∷ [])) ++ (more.0 ++ 10 ∷ [])) (sym more.1) (left ∙ sym right),
-    )
+word_in_line front word back (inl none) = ([], rw none (simp (append_assoc, append-nil)))
+word_in_line front word back (inr more) = (more.0 ++ 10 ∷ [], rw more.1 (simp append_assoc))
 
-in_line : (bytes : List ℕ) (fault : LineFault) → HasNoLargeBlock bytes → StandsInLine bytes fault
-    → HasPlace bytes fault
+in_line : (bytes : List ℕ) (fault : LineFault) → HasNoLargeBlock bytes → StandsInLine bytes fault → HasPlace bytes fault
 in_line bytes fault small h =
     let own = all_to _ h.line h.is_line in
     let cut = behind_cut h.line h.behind own h.ends in
@@ -79,8 +58,7 @@ in_line bytes fault small h =
     let whole : text_of (h.before ++ h.line ∷ [])
     ≡ (text_of h.before ++ (h.front ++ (h.word ++ byte_behind h.back ∷ []))) ++ last.0 =
     text_more h.before h.line ∙ ap (λ (x : List ℕ). text_of h.before ++ (x ++ 10 ∷ [])) h.is_word.line_is
-    ∙ ap (λ (x : List ℕ). text_of h.before ++ x) last.1
-    ∙ sym (append_assoc (text_of h.before) (h.front ++ (h.word ++ byte_behind h.back ∷ [])) last.0) in
+    ∙ rw last.1 (simp append_assoc) in
     record {
       before = h.before;
       line = h.line;
@@ -117,10 +95,8 @@ lacks_newline bytes fault small h =
     let own = all_to _ h.line h.is_line in
     let cut = ap (slice_split newline) (sym (append-nil h.line)) ∙ line_more h.line [] [] [] own refl
     ∙ ap (λ (x : List ℕ). x ∷ []) (append-nil h.line) in
-    let whole : bytes ++ 10 ∷ [] ≡ text_of (h.before ++ h.line ∷ []) ++ [] = ap (λ
-    (x : List ℕ). x ++ 10 ∷ []) h.bytes_are
-    ∙ append_assoc (text_of h.before) h.line (10 ∷ []) ∙ sym (text_more h.before h.line)
-    ∙ sym (append-nil (text_of (h.before ++ h.line ∷ []))) in
+    let whole : bytes ++ 10 ∷ [] ≡ text_of (h.before ++ h.line ∷ []) ++ [] =
+    rw (h.bytes_are, text_more h.before h.line) (simp (append_assoc, append-nil)) in
     let begins = no_large bytes (h.before ++ h.line ∷ []) [] small whole h.faultless in
     record {
       before = h.before;

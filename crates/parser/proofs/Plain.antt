@@ -1,38 +1,108 @@
--- Words of bytes above the space, and lines made of them.
-use Rattle.std.proofs.Common.{◌≡◌, ℕ, ◌^◌, ◌<◌, Bool, true, false, List, [], sym, subst}
-use Rattle.std.proofs.Common.{nat_lt, ◌≢◌, ◌∷◌, ◌++◌, refl, ap, ◌∙◌, arith, inl, inr, append_assoc}
-use Rattle.std.specs.Prelude.{codes, map}
-use Rattle.std.specs.Fmt.{decimal}
-use Rattle.std.specs.List.{All, AllByRecursion, list_all, slice_split, join_with_byte, flat_map}
-use Rattle.std.proofs.lemmas.Bool.Decides.{nat_tests}
-use Rattle.std.proofs.lemmas.List.Splits.{slice_split_none, slice_split_at}
-use Rattle.std.proofs.lemmas.Bool.{and_parts}
-use Rattle.model.proofs.Ranges.{page_size_range}
-use Rattle.model.specs.declared.steps.Actor.{Actor}
-use Rattle.model.specs.declared.steps.Actor.TheVariants.{Thread, Worker}
-use Rattle.parser.specs.declared.heading.Sizes.{Sizes}
-use Rattle.parser.specs.declared.order.Order.{Order}
-use Rattle.parser.specs.declared.verbs.Kind.{Kind}
-use Rattle.parser.specs.declared.verbs.Kind.TheVariants.{Nothing, Register, Number, ThreadName, Long, Address, Percent}
-use Rattle.parser.specs.declared.verbs.Verb.{Verb}
-use Rattle.parser.specs.Words.{is_digit, page_in, offset_in}
-use Rattle.parser.specs.Verbs.{row_of}
-use Rattle.parser.specs.Headings.{config_of}
-use Rattle.parser.specs.Reading.{newline}
-use Rattle.parser.specs.Spelling.{line_of, actor_word, address_word, operand_word, order_words, SpellsLimit}
-use Rattle.parser.specs.Spelling.{with_newline}
-use Rattle.std.proofs.lemmas.List.Folds.{list_all-append}
-use Rattle.parser.specs.Spelling.{IsActor, IsOperand, AreMore, IsOrder}
-use Rattle.parser.proofs.Lists.{HasNoNewlines, all_both, all_from, all_to}
-use Rattle.parser.proofs.ManyNumbers.{AreSmall}
-use Rattle.parser.proofs.Numbers.{decimal_digits}
-use Rattle.parser.proofs.Places.{space}
-use Rattle.parser.proofs.Operands.{AreFew, bounds_in}
-use Rattle.parser.proofs.HeapLines.{SpellsSizes}
+-- Words without spaces, and sizes and layouts within their ranges.
+use Rattle.parser.proofs.Names.{List, arith, false, length, refl, true, ℕ, ◌^◌, ◌≡◌, ◌≤◌, not-false, or_parts}
+use Rattle.parser.proofs.Names.{nat_tests, list_all, not, ◌||◌, Layout, fits_page, is_page_size, Config, config_of}
+use Rattle.parser.proofs.Names.{IsScriptConfig, Sizes, Bool, [], ap, append_assoc, inl, inr, nat_lt, subst, sym, ◌++◌}
+use Rattle.parser.proofs.Names.{◌<◌, ◌∙◌, ◌∷◌, ◌≢◌, and_parts, slice_split_at, slice_split_none, decimal, All}
+use Rattle.parser.proofs.Names.{AllByRecursion, flat_map, join_with_byte, slice_split, codes, map, page_size_range}
+use Rattle.parser.proofs.Names.{Actor, Thread, Worker, newline, AreMore, IsActor, IsOperand, IsOrder, SpellsLimit}
+use Rattle.parser.proofs.Names.{actor_word, line_of, operand_word, order_words, with_newline, row_of, Order, Kind}
+use Rattle.parser.proofs.Names.{Address, Long, Nothing, Number, Percent, Register, ThreadName}
+use Rattle.model.specs.Configs.{is_outside, first_fault, IsConfig}
+use Rattle.model.proofs.Ranges.{no_fault, within}
+use Rattle.parser.proofs.HeapLines.{IsWithin, IsSizes, SpellsSizes}
+use Rattle.parser.proofs.Lists.{HasNoNewlines, all_weaker, all_both, all_from, all_to}
+use Rattle.parser.proofs.ManyNumbers.{AreSmall, address_plain}
+use Rattle.parser.proofs.Numbers.{IsPlain, number_plain}
+use Rattle.parser.proofs.WordPlaces.{space, HasNoSpace}
+use Rattle.parser.proofs.ActorsAndOrders.{AreFew, bounds_in, text_plain}
 
--- each byte of a word is above the space: none is a space or a newline
-abbrev pub IsPlain : List ℕ → Type 0
-IsPlain w = list_all (λ b. nat_lt 32 b) w ≡ true
+-- the sizes in a configuration
+abbrev pub sizes_in : Config → Sizes
+sizes_in c = record {
+  words = c.words;
+  frames = c.frames;
+  pages = c.pages;
+  threads = c.threads;
+  workers = c.workers;
+  registers = c.registers;
+  globals = c.globals;
+  births = c.births;
+  history = c.history;
+}
+
+-- some layouts, not too many, each of which fits in a page
+pub record AreLayouts (words : ℕ) (ls : List Layout) : Type 0 where
+  pub some : 1 ≤ length ls
+  pub few : length ls ≤ 64
+  pub room : list_all (fits_page words) ls ≡ true
+
+inside : (n low high : ℕ) → IsWithin low high n → is_outside n low high ≡ false
+inside n low high h = let low_side = h.0 in let high_side = h.1 in grind (arith, nat_tests)
+
+valid : (s : Sizes) (ls : List Layout) → IsSizes s → AreLayouts s.words ls → IsConfig (config_of s ls)
+unfolding first_fault
+valid s ls r l =
+    let frames = inside s.frames 1 1048575 (r.frames.0, omega (arith, r.frames.1)) in
+    let pages = inside s.pages s.frames 1048575 r.pages in
+    let threads = inside s.threads 1 1024 (r.threads.0, omega (arith, r.threads.1)) in
+    let workers = inside s.workers 1 16 r.workers in
+    let registers = inside s.registers 1 65535 (r.registers.0, omega (arith, r.registers.1)) in
+    let globals = inside s.globals 0 65535 (r.globals.0, omega (arith, r.globals.1)) in
+    let count = inside (length ls) 1 256 (l.some, omega (arith, l.few)) in
+    let births = inside s.births 1 (2 ^ 56) (r.births.0, omega (arith, r.births.1)) in
+    let history = inside s.history 1 1000000 r.history in
+    rw (r.words, frames, pages, threads, workers, registers, globals, count, l.room, births, history) refl
+
+pub config_in_range : (s : Sizes) (ls : List Layout) → IsSizes s → AreLayouts s.words ls
+    → IsScriptConfig (config_of s ls)
+config_in_range s ls r l = record {
+  config = valid s ls r l;
+  frames = r.frames.1;
+  threads = r.threads.1;
+  registers = r.registers.1;
+  globals = r.globals.1;
+  layouts = l.few;
+  births = r.births.1;
+}
+
+-- the first three fields and those after them
+pub record IsInRange (c : Config) : Type 0 where
+  pub sizes : IsSizes (sizes_in c)
+  pub layouts : AreLayouts c.words c.layouts
+
+pub config_tells : (c : Config) → IsScriptConfig c → IsInRange c
+unfolding first_fault
+config_tells c h =
+    let w = no_fault (not (is_page_size c.words)) _ _ h.config in
+    let f = no_fault (is_outside c.frames 1 1048575) _ _ w.1 in
+    let p = no_fault (is_outside c.pages c.frames 1048575) _ _ f.1 in
+    let t = no_fault (is_outside c.threads 1 1024) _ _ p.1 in
+    let k = no_fault (is_outside c.workers 1 16) _ _ t.1 in
+    let r = no_fault (is_outside c.registers 1 65535) _ _ k.1 in
+    let g = no_fault (is_outside c.globals 0 65535) _ _ r.1 in
+    let l = no_fault (is_outside (length c.layouts) 1 256 || not (list_all (fits_page c.words) c.layouts)) _ _ g.1 in
+    let b = no_fault (is_outside c.births 1 (2 ^ 56)) _ _ l.1 in
+    let y = no_fault (is_outside c.history 1 1000000) _ _ b.1 in
+    let both = or_parts (is_outside (length c.layouts) 1 256) (not (list_all (fits_page c.words) c.layouts)) l.0 in
+    let count = within (length c.layouts) 1 256 both.0 in
+    record {
+      sizes = record {
+        words = not-false (is_page_size c.words) w.0;
+        frames = ((within c.frames 1 1048575 f.0).0, h.frames);
+        pages = within c.pages c.frames 1048575 p.0;
+        threads = ((within c.threads 1 1024 t.0).0, h.threads);
+        workers = within c.workers 1 16 k.0;
+        registers = ((within c.registers 1 65535 r.0).0, h.registers);
+        globals = (omega arith, h.globals);
+        births = ((within c.births 1 (2 ^ 56) b.0).0, h.births);
+        history = within c.history 1 1000000 y.0;
+      };
+      layouts = record {
+        some = count.0;
+        few = h.layouts;
+        room = not-false (list_all (fits_page c.words) c.layouts) both.1;
+      };
+    }
 
 pub no_spaces : (w : List ℕ) → IsPlain w → AllByRecursion (λ b. space b ≡ false) w
 no_spaces [] h = tt
@@ -43,12 +113,16 @@ no_spaces (b ∷ bs) h =
     (no, no_spaces bs p.1)
 
 -- words without spaces are the parts of their line
+pub spaced_split : (w : List ℕ) (ws : List (List ℕ)) → AllByRecursion HasNoSpace (w ∷ ws)
+    → slice_split space (join_with_byte 32 (w ∷ ws)) ≡ w ∷ ws
+spaced_split w [] h = slice_split_none space w (all_from (λ b. space b ≡ false) w h.0)
+spaced_split w (v ∷ vs) h =
+    slice_split_at space w 32 (join_with_byte 32 (v ∷ vs)) (all_from (λ b. space b ≡ false) w h.0) refl
+    ∙ ap (λ (t : List (List ℕ)). w ∷ t) (spaced_split v vs h.1)
+
 pub words_split : (w : List ℕ) (ws : List (List ℕ)) → IsPlain w → AllByRecursion IsPlain ws
     → slice_split space (join_with_byte 32 (w ∷ ws)) ≡ w ∷ ws
-words_split w [] first h = slice_split_none space w (all_from (λ b. space b ≡ false) w (no_spaces w first))
-words_split w (v ∷ vs) first h =
-    slice_split_at space w 32 (join_with_byte 32 (v ∷ vs)) (all_from (λ b. space b ≡ false) w (no_spaces w first)) refl
-    ∙ ap (λ (t : List (List ℕ)). w ∷ t) (words_split v vs h.0 h.1)
+words_split w ws first h = spaced_split w ws (no_spaces w first, all_weaker IsPlain HasNoSpace no_spaces ws h)
 
 -- ---- newlines
 
@@ -60,12 +134,15 @@ no_newlines (b ∷ bs) h =
     let ne : b ≢ 10 = grind (arith, nat_tests) in
     (ne, no_newlines bs p.1)
 
+pub line_no_newlines : (words : List (List ℕ)) → AllByRecursion HasNoNewlines words → HasNoNewlines (line_of words)
+line_no_newlines [] h = tt
+line_no_newlines (w ∷ []) h = h.0
+line_no_newlines (w ∷ v ∷ words) h =
+    all_both (λ b. b ≢ 10) w (32 ∷ line_of (v ∷ words)) h.0
+    (λ e. absurd (omega arith), line_no_newlines (v ∷ words) h.1)
+
 pub words_no_newlines : (words : List (List ℕ)) → AllByRecursion IsPlain words → HasNoNewlines (line_of words)
-words_no_newlines [] h = tt
-words_no_newlines (w ∷ []) h = no_newlines w h.0
-words_no_newlines (w ∷ v ∷ words) h =
-    let rest = words_no_newlines (v ∷ words) h.1 in
-    all_both (λ b. b ≢ 10) w (32 ∷ line_of (v ∷ words)) (no_newlines w h.0) (λ e. absurd (omega arith), rest)
+words_no_newlines words h = line_no_newlines words (all_weaker IsPlain HasNoNewlines no_newlines words h)
 
 none_end : (line : List ℕ) → HasNoNewlines line → AllByRecursion (λ b. newline b ≡ false) line
 none_end [] h = tt
@@ -87,26 +164,9 @@ lines_split (line ∷ lines) h =
 
 -- ---- words of lines
 
-digits_plain : (ds : List ℕ) → list_all is_digit ds ≡ true → IsPlain ds
-digits_plain [] h = refl
-digits_plain (b ∷ bs) h =
-    let p = and_parts (is_digit b) (list_all is_digit bs) h in
-    let digit = p.0 in
-    let high : nat_lt 32 b ≡ true = grind (arith, nat_tests) in
-    rw high (digits_plain bs p.1)
-
-pub number_plain : (n : ℕ) → n < 2 ^ 64 → IsPlain (decimal n)
-number_plain n h = digits_plain (decimal n) (decimal_digits n h)
-
 pub actor_plain : (sizes : Sizes) (a : Actor) → AreFew sizes → IsActor (config_of sizes []) a → IsPlain (actor_word a)
 actor_plain sizes (Thread t) few h = number_plain t (omega (arith, few.threads.1, h))
 actor_plain sizes (Worker w) few h = number_plain w (omega (arith, few.workers.1, h))
-
-address_plain : (n : ℕ) → n < 2 ^ 64 → IsPlain (address_word (page_in n) (offset_in n))
-address_plain n h =
-    let page = number_plain (page_in n) (omega arith) in
-    let offset = number_plain (offset_in n) (omega arith) in
-    list_all-append (λ b. nat_lt 32 b) (decimal (page_in n)) (46 ∷ decimal (offset_in n)) ∙ (rw (page, offset) refl)
 
 operand_plain : (sizes : Sizes) (kind : Kind) (n : ℕ) → AreFew sizes → IsOperand (bounds_in sizes) kind n
     → AllByRecursion IsPlain (operand_word kind n)
@@ -125,9 +185,6 @@ numbers_plain (n ∷ ns) h = (number_plain n (omega (arith, h.0)), numbers_plain
 more_plain : (some : Bool) (ns : List ℕ) → AreMore some ns → AllByRecursion IsPlain (map decimal ns)
 more_plain false ns is = subst (λ (x : List ℕ). AllByRecursion IsPlain (map decimal x)) (sym is) tt
 more_plain true ns is = numbers_plain ns (all_to (λ n. n < 2 ^ 32) ns is)
-
-text_plain : (verb : Verb) → IsPlain (row_of verb).text
-text_plain verb = grind arith
 
 pub order_plain : (sizes : Sizes) (o : Order) → AreFew sizes → IsOrder (bounds_in sizes) o
     → AllByRecursion IsPlain (order_words o)

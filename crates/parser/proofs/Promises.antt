@@ -1,21 +1,13 @@
 -- The promises of `parse`, by what reading defines.
-use Rattle.std.proofs.Common.{◌≡◌, ℕ, List, Option, Some, None, IfSome, ap, sym, subst, ◌∙◌}
-use Rattle.std.specs.Prelude.{Result, Ok}
-use Rattle.std.specs.Option.{is_some}
-use Rattle.std.specs.List.{slice_split}
-use Rattle.parser.specs.declared.fault.LineFault.{LineFault}
-use Rattle.parser.specs.declared.fault.ParseFault.{ParseFault}
-use Rattle.parser.specs.declared.spots.Sought.{Sought}
-use Rattle.parser.specs.declared.spots.Sought.TheVariants as sought
-use Rattle.parser.specs.declared.spots.Spots.{Spots}
-use Rattle.parser.specs.Reading.{ScriptValue, newline, script_in}
-use Rattle.parser.specs.Scripts.{IsReadOf, ParsedScript, IsParsed, script_alone}
-use Rattle.parser.specs.Spelling.{IsScript, Spells}
-use Rattle.parser.specs.Spots.{first_spot, IsFirstSpot, spots_in}
+use Rattle.parser.proofs.Names.{List, None, Option, Some, ap, subst, sym, ℕ, ◌∙◌, ◌≡◌, slice_split, is_some, Ok}
+use Rattle.parser.proofs.Names.{Result, ScriptValue, newline, script_in, IsReadOf, ParsedScript, IsScript, Spells}
+use Rattle.parser.proofs.Names.{IsFirstSpot, first_spot, spots_in, LineFault, ParseFault, Sought, Spots}
+use Rattle.std.proofs.Common.{IfSome}
+use Rattle.parser.specs.Scripts.{IsParsed, script_alone}
 use Rattle.parser.proofs.ScriptIsSpelled.{read_is_spelled}
 use Rattle.parser.proofs.SpelledIsRead.{spelled_is_read}
-use Rattle.parser.proofs.SpotPlaces.{spot_stands}
-use Rattle.parser.proofs.SpotTexts.{text_sought}
+use Rattle.parser.proofs.SpotPlaces.{spot_stands, text_sought}
+use Rattle.parser.specs.declared.spots.Sought.TheVariants as sought
 
 -- what is read is within all limits
 pub read_valid : (bytes : List ℕ) (s : ScriptValue) → script_in bytes ≡ Ok s → IsScript s

@@ -1,40 +1,19 @@
 -- Where reading stops, and that a text of accepted lines and a line with a fault isn't a script.
-use Rattle.std.proofs.Common.{◌≡◌, ◌≢◌, ℕ, ◌+◌, false, List, [], ◌∷◌, ◌++◌, length, refl, sym, ap, subst, ◌∙◌, arith}
-use Rattle.std.proofs.Common.{inl, inr, append-nil, append_assoc, ◌<◌, ◌≤◌, true, length-append}
-use Rattle.std.specs.Prelude.{Result, Ok, Err, ◌==◌, ◌⊎◌, filter}
-use Rattle.std.proofs.lemmas.Bool.Decides.{nat_tests}
-use Rattle.parser.specs.declared.fault.FaultKind.TheVariants as kinds
-use Rattle.parser.specs.declared.fault.Flaw.{Flaw}
-use Rattle.parser.specs.declared.fault.LineFault.{LineFault}
-use Rattle.parser.specs.Reading.{ScriptValue, ReadSoFar, line_in, in_line, goes_on, finished, last_line, lines_in}
-use Rattle.parser.specs.Reading.{nothing, newline, script_in}
-use Rattle.parser.specs.Spelling.{says_something, Spells, IsScript}
-use Rattle.parser.proofs.Lists.{IsCons, told, filter_told, split_cons, HasNoNewlines, all_front, all_push}
+use Rattle.parser.proofs.Names.{List, [], ap, append-nil, append_assoc, arith, false, inl, inr, length, length-append}
+use Rattle.parser.proofs.Names.{refl, subst, sym, ℕ, ◌++◌, ◌+◌, ◌∙◌, ◌∷◌, ◌≡◌, ◌≢◌, ◌≤◌, ◌⊎◌, nat_tests}
+use Rattle.parser.proofs.Names.{slice_split-cons_yes, slice_split_at, AllByRecursion, onto_first, slice_split, Err}
+use Rattle.parser.proofs.Names.{Ok, Result, ◌==◌, BeginsScript, IsWordEnd, byte_behind, text_of, ReadSoFar}
+use Rattle.parser.proofs.Names.{ScriptValue, goes_on, in_line, newline, nothing, finished, last_line, line_in}
+use Rattle.parser.proofs.Names.{lines_in, script_in, IsScript, Spells, Flaw, LineFault}
+use Rattle.parser.proofs.Lists.{IsCons, split_cons, HasNoNewlines, all_front, all_push}
 use Rattle.parser.proofs.Lines.{lines_cons}
-use Rattle.parser.proofs.ReadIsSpelled.{Said, line_ok}
 use Rattle.parser.proofs.ScriptIsSpelled.{pick_false, never}
-use Rattle.std.specs.List.{AllByRecursion, slice_split, onto_first}
-use Rattle.std.proofs.lemmas.List.Splits.{slice_split_at, slice_split-cons_yes, slice_split-cons_no}
-use Rattle.parser.specs.Faults.{text_of, BeginsScript, IsWordEnd, byte_behind}
+use Rattle.std.proofs.lemmas.List.Splits.{slice_split-cons_no}
 use Rattle.parser.proofs.Plain.{none_ends}
-use Rattle.parser.proofs.Alike.{IsLate, alike_spaced}
-use Rattle.parser.proofs.AlikeLines.{line_taken}
-use Rattle.parser.proofs.SpelledIsRead.{spelled_is_read}
-
--- the lines are accepted one after another, and lead from what was read to what is read then
-abbrev pub Leads : List (List ℕ) → ReadSoFar → ReadSoFar → Type 0
-Leads [] r t = r ≡ t
-Leads (line ∷ lines) r t = (u : ReadSoFar) × ((line_in r line ≡ Ok u) × Leads lines u t)
-
-pub leads_said : (lines said : List (List ℕ)) (r t : ReadSoFar) → Said said r → Leads lines r t
-    → Said (said ++ filter says_something lines) t
-leads_said [] said r t so_far h =
-    subst (λ (x : ReadSoFar). Said (said ++ []) x) h (rw (append-nil said) so_far)
-leads_said (line ∷ lines) said r t so_far h =
-    let after = line_ok said r h.0 line so_far h.1.0 in
-    let rest = leads_said lines (said ++ told says_something line) h.0 t after h.1.1 in
-    subst (λ (x : List (List ℕ)). Said x t) (append_assoc said (told says_something line) (filter says_something lines)
-    ∙ ap (λ (x : List (List ℕ)). said ++ x) (sym (filter_told says_something line lines))) rest
+use Rattle.parser.proofs.WordPlaces.{alike_spaced}
+use Rattle.parser.proofs.LineTrees.{line_same}
+use Rattle.parser.proofs.SpelledIsRead.{Leads, spelled_is_read}
+use Rattle.parser.specs.declared.fault.FaultKind.TheVariants as kinds
 
 cons_behind : (lines more : List (List ℕ)) → IsCons more → IsCons (lines ++ more)
 cons_behind [] more h = h
@@ -229,8 +208,7 @@ never_behind_line : (before : List (List ℕ)) (line : List ℕ) (t : ReadSoFar)
 never_behind_line before line t flaw each own leads wrong begins =
     let same : line ++ [] ≡ line = append-nil line in
     let bytes : (text_of before ++ (line ++ 10 ∷ [])) ++ begins.more ≡ text_of before ++ (line ++ 10 ∷ begins.more) =
-    append_assoc (text_of before) (line ++ 10 ∷ []) begins.more
-    ∙ ap (λ (x : List ℕ). text_of before ++ x) (append_assoc line (10 ∷ []) begins.more) in
+    simp append_assoc in
     not_read before line (10 ∷ begins.more) [] (slice_split newline begins.more) t flaw begins.script each own leads
     (slice_split-cons_yes newline 10 begins.more refl)
     (subst (λ (x : List ℕ). line_in t x ≡ Err flaw) (sym same) wrong)
@@ -240,15 +218,13 @@ never_behind_line before line t flaw each own leads wrong begins =
 -- a line whose word before a space has a fault
 never_behind_word : (before : List (List ℕ)) (front back : List ℕ) (t : ReadSoFar) (flaw : Flaw)
     → AllByRecursion HasNoNewlines before → HasNoNewlines front → Leads before nothing t
-    → (t.begun ≡ true → 1 ≤ length t.layouts) → line_in t (front ++ 32 ∷ back) ≡ Err flaw
-    → flaw.column ≤ length front + 1 → BeginsScript (text_of before ++ (front ++ 32 ∷ [])) → ⊥
-never_behind_word before front back t flaw each own leads started wrong early begins =
+    → line_in t (front ++ 32 ∷ back) ≡ Err flaw → flaw.column ≤ length front + 1 → BeginsScript
+    (text_of before ++ (front ++ 32 ∷ [])) → ⊥
+never_behind_word before front back t flaw each own leads wrong early begins =
     let spaced = front ++ 32 ∷ [] in
     let cut = split_cons newline begins.more in
-    let taken = line_taken (length front + 1) (front ++ 32 ∷ back) (front ++ 32 ∷ cut.first)
-    (alike_spaced front back cut.first) t started in
-    let same = told_same (length front + 1) (front ++ 32 ∷ back) (line_in t (front ++ 32 ∷ back))
-    (line_in t (front ++ 32 ∷ cut.first)) flaw taken.same wrong early in
+    let same = line_same (length front + 1) (front ++ 32 ∷ back) (front ++ 32 ∷ cut.first)
+    (alike_spaced front back cut.first) t flaw (omega arith) early wrong in
     let line_is : spaced ++ cut.first ≡ front ++ 32 ∷ cut.first = append_assoc front (32 ∷ []) cut.first in
     let spaced_own : HasNoNewlines spaced = all_push (λ b. b ≢ 10) front 32 own (λ e. absurd (omega arith)) in
     not_read before spaced begins.more cut.first cut.others t flaw begins.script each spaced_own leads cut.is
@@ -256,38 +232,23 @@ never_behind_word before front back t flaw each own leads started wrong early be
     (subst (λ (x : List ℕ). (length x == 0) ≡ false) (sym line_is) (some_line front cut.first 32))
     begins.valid (subst (λ (x : List ℕ). Spells x begins.script) (append_assoc (text_of before) spaced begins.more)
     begins.spelled)
-  where
-    told_same : (n : ℕ) (line : List ℕ) (r other : Result ReadSoFar Flaw) (flaw : Flaw)
-        → (r ≡ other) ⊎ IsLate (λ (t : ReadSoFar). length line + 1) n r → r ≡ Err flaw → flaw.column ≤ n
-        → other ≡ Err flaw
-    told_same n line r other flaw (inl same) is early = sym same ∙ is
-    told_same n line r other flaw (inr late) is early =
-        let behind : n < flaw.column = subst (IsLate (λ (t : ReadSoFar). length line + 1) n) is late in
-        absurd (omega arith)
 
 -- up to the end of a word with a fault, and the byte after it, bytes begin no script
 pub never_begins : (before : List (List ℕ)) (line front word back : List ℕ) (t : ReadSoFar) (flaw : Flaw)
-    → AllByRecursion HasNoNewlines before → HasNoNewlines line → Leads before nothing t
-    → (t.begun ≡ true → 1 ≤ length t.layouts) → line_in t line ≡ Err flaw → line ≡ front ++ (word ++ back)
-    → IsWordEnd back → flaw.column ≡ length front + 1
+    → AllByRecursion HasNoNewlines before → HasNoNewlines line → Leads before nothing t → line_in t line ≡ Err flaw
+    → line ≡ front ++ (word ++ back) → IsWordEnd back → flaw.column ≡ length front + 1
     → BeginsScript (text_of before ++ (front ++ (word ++ byte_behind back ∷ []))) → ⊥
-never_begins before line front word back t flaw each own leads started wrong is (inl none) column begins =
-    let same : line ≡ front ++ word = is ∙ ap (λ (x : List ℕ). front ++ (word ++ x)) none
-    ∙ ap (λ (x : List ℕ). front ++ x) (append-nil word) in
+never_begins before line front word back t flaw each own leads wrong is (inl none) column begins =
+    let same : line ≡ front ++ word = rw (is, none) (simp append-nil) in
     let bytes : text_of before ++ (front ++ (word ++ byte_behind back ∷ [])) ≡ text_of before ++ (line ++ 10 ∷ []) =
-    ap (λ (x : List ℕ). text_of before ++ (front ++ (word ++ byte_behind x ∷ []))) none
-    ∙ ap (λ (x : List ℕ). text_of before ++ x) (sym (append_assoc front word (10 ∷ [])))
-    ∙ ap (λ (x : List ℕ). text_of before ++ (x ++ 10 ∷ [])) (sym same) in
+    rw (none, same) (simp append_assoc) in
     never_behind_line before line t flaw each own leads wrong (subst BeginsScript bytes begins)
-never_begins before line front word back t flaw each own leads started wrong is (inr more) column begins =
-    let same : line ≡ (front ++ word) ++ 32 ∷ more.0 =
-    is ∙ ap (λ (x : List ℕ). front ++ (word ++ x)) more.1 ∙ sym (append_assoc front word (32 ∷ more.0)) in
+never_begins before line front word back t flaw each own leads wrong is (inr more) column begins =
+    let same : line ≡ (front ++ word) ++ 32 ∷ more.0 = rw (is, more.1) (simp append_assoc) in
     let bytes : text_of before ++ (front ++ (word ++ byte_behind back ∷ []))
-    ≡ text_of before ++ ((front ++ word) ++ 32 ∷ []) =
-    ap (λ (x : List ℕ). text_of before ++ (front ++ (word ++ byte_behind x ∷ []))) more.1
-    ∙ ap (λ (x : List ℕ). text_of before ++ x) (sym (append_assoc front word (32 ∷ []))) in
+    ≡ text_of before ++ ((front ++ word) ++ 32 ∷ []) = rw more.1 (simp append_assoc) in
     let long = length-append front word in
     let front_own : HasNoNewlines (front ++ word) =
     all_front (λ b. b ≢ 10) (front ++ word) (32 ∷ more.0) (subst HasNoNewlines same own) in
-    never_behind_word before (front ++ word) more.0 t flaw each front_own leads started
+    never_behind_word before (front ++ word) more.0 t flaw each front_own leads
     (subst (λ (x : List ℕ). line_in t x ≡ Err flaw) same wrong) (omega arith) (subst BeginsScript bytes begins)

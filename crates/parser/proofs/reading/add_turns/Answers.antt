@@ -1,6 +1,6 @@
 use Rattle.std.proofs.Common.{◌≡◌, ◌++◌, sym, ap, ◌∙◌, arith, append-nil}
 use Rattle.std.specs.List.{repeat}
-use Rattle.parser.proofs.Parts.{add_none, add_turn}
+use Rattle.parser.proofs.Lists.{add_none, add_turn}
 use Rattle.parser.proofs.reading.add_turns.Goals as goal
 
 pub returns-then-is_empty : goal.returns-then-is_empty

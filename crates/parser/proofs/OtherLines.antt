@@ -1,36 +1,92 @@
--- A line that is spelled correctly, within all limits, is accepted.
-use Rattle.std.proofs.Common.{◌≡◌, ℕ, ◌+◌, ◌*◌, ◌^◌, ◌<◌, ◌≤◌, Bool, true, false, nat_lt, List, subst}
-use Rattle.std.proofs.Common.{[], ◌∷◌, ◌++◌, length, Option, Some, None, refl, sym, ap, ◌∙◌, arith}
-use Rattle.std.specs.Prelude.{Ok, ◌==◌, codes}
-use Rattle.std.specs.Str.{bytes_eq}
-use Rattle.std.specs.Fmt.{decimal}
-use Rattle.std.specs.List.{AllByRecursion, list_all, slice_split, repeat}
-use Rattle.std.proofs.lemmas.Slice.Eq.{bytes_eq-Decides}
-use Rattle.std.proofs.lemmas.Bool.{lt-ltb, le-ltb}
-use Rattle.std.proofs.lemmas.Bool.Decides.{nat_tests}
-use Rattle.layout.specs.declared.shape.Layout.{Layout}
-use Rattle.model.specs.declared.steps.Actor.{Actor}
-use Rattle.model.specs.declared.steps.Actor.TheVariants.{Thread, Worker}
-use Rattle.model.specs.Configs.{fits_page}
-use Rattle.parser.specs.declared.heading.Sizes.{Sizes}
-use Rattle.parser.specs.declared.order.Command.{Command}
-use Rattle.parser.specs.declared.limits.TheConstants.{MOST_LAYOUTS}
-use Rattle.parser.specs.declared.reading.TheConstants.{MOST_COMMANDS, MOST_TURNS}
-use Rattle.parser.specs.Words.{is_digit}
-use Rattle.parser.specs.Headings.{config_of}
-use Rattle.parser.specs.Reading.{ReadSoFar, nothing, is_idle, first_word}
-use Rattle.parser.specs.Reading.{heap_line, layout_line, is_full, with_command, command_line, times_in}
-use Rattle.parser.specs.Reading.{times_line, end_in, end_line, part_line, later_line, line_after, line_in}
-use Rattle.parser.specs.Spelling.{line_of, actor_word, order_words, command_line_of, layout_line_of, size_words}
-use Rattle.parser.specs.Spelling.{SpellsHeap, times_line_of, IsLayout, IsActor, IsCommand}
-use Rattle.parser.proofs.Numbers.{decimal_digits}
-use Rattle.parser.proofs.Places.{words_from, words_whole, space, cons_is}
-use Rattle.parser.proofs.Places.{number_again, end_again}
-use Rattle.parser.proofs.Operands.{AreFew}
-use Rattle.parser.proofs.ActorsAndOrders.{order_again, actor_again}
-use Rattle.parser.proofs.HeapLines.{IsSizes, SpellsSizes, heap_again, layout_again}
-use Rattle.parser.proofs.ReadIsSpelled.{first_words, few_actors}
-use Rattle.parser.proofs.Plain.{IsPlain, words_split, number_plain, actor_plain, order_plain, sizes_plain}
+-- What was read so far, and lines that are spelled correctly, within all limits: they are accepted.
+use Rattle.parser.proofs.Names.{List, None, Option, Some, [], ap, arith, false, length, refl, true, ℕ, ◌++◌, ◌∙◌, ◌∷◌}
+use Rattle.parser.proofs.Names.{◌≡◌, ◌≤◌, ◌⊎◌, nat_tests, AllByRecursion, flat_map, list_all, map, ◌==◌, Layout}
+use Rattle.parser.proofs.Names.{page_size_range, fits_page, config_of, ReadSoFar, first_word_in, nothing, first_word}
+use Rattle.parser.proofs.Names.{IsCommand, IsLayout, IsPart, Part, SpellsHeap, layout_line_of, line_of, part_commands}
+use Rattle.parser.proofs.Names.{part_lines, word_at, Sizes, MOST_COMMANDS, Bool, nat_lt, subst, sym, ◌*◌, ◌+◌, ◌<◌}
+use Rattle.parser.proofs.Names.{◌^◌, le-ltb, lt-ltb, bytes_eq-Decides, decimal, repeat, slice_split, Ok, codes}
+use Rattle.parser.proofs.Names.{bytes_eq, Actor, Thread, Worker, end_in, is_full, is_idle, line_after, times_in}
+use Rattle.parser.proofs.Names.{with_command, command_line, end_line, heap_line, later_line, layout_line, line_in}
+use Rattle.parser.proofs.Names.{part_line, times_line, IsActor, actor_word, command_line_of, order_words, size_words}
+use Rattle.parser.proofs.Names.{times_line_of, is_digit, MOST_LAYOUTS, Command, MOST_TURNS, inl, inr, not, ◌&&◌}
+use Rattle.parser.proofs.Lists.{split_cons, open_lines, HasTurns}
+use Rattle.parser.proofs.WordPlaces.{words_from, word_is, no_word_is, words_whole, space, cons_is, number_again}
+use Rattle.parser.proofs.WordPlaces.{end_again}
+use Rattle.parser.proofs.ActorsAndOrders.{AreFew, line_is, order_again, actor_again}
+use Rattle.parser.proofs.HeapLines.{IsSizes, SpellsSizes, heap_again}
+use Rattle.parser.proofs.Numbers.{decimal_digits, IsPlain, number_plain}
+use Rattle.parser.proofs.LayoutLines.{layout_again}
+use Rattle.parser.proofs.Plain.{words_split, actor_plain, order_plain, sizes_plain}
+
+-- ---- the first word
+
+first_found : (line : List ℕ) (o : Option (List ℕ × ℕ)) → word_at line 0 ≡ o
+    → words_from line 0 ≡ (first_word_in o).0 ∷ words_from line (first_word_in o).1
+first_found line None e = let none = no_word_is line 0 e in let whole_line = words_whole line in
+    let some = split_cons (λ b. b == 32) line in let first = some.is in absurd cc
+first_found line (Some w) e = word_is line 0 w e
+
+-- the words of a line are the first one and those after it
+pub first_words : (line : List ℕ) → words_from line 0 ≡ (first_word line).0 ∷ words_from line (first_word line).1
+unfolding first_word
+first_words line = first_found line (word_at line 0) refl
+
+-- a line by its first word and what follows it
+pub line_by_words : (line w : List ℕ) (ws : List (List ℕ)) → (first_word line).0 ≡ w
+    → words_from line (first_word line).1 ≡ ws → line ≡ line_of (w ∷ ws)
+line_by_words line w ws first rest =
+    line_is line (w ∷ ws) (first_words line ∙ ap (λ (t : List ℕ). t ∷ words_from line (first_word line).1) first
+    ∙ ap (λ (t : List (List ℕ)). w ∷ t) rest)
+
+-- ---- what was read so far
+
+-- before a command or a block has begun there are no parts
+pub record IsFresh (r : ReadSoFar) (parts : List Part) : Type 0 where
+  pub no_parts : parts ≡ []
+  pub no_block : r.turns ≡ None
+
+-- after the heap line: the lines that aren't empty or comments spell what was read, and it is in range
+pub record IsBehind (said : List (List ℕ)) (r : ReadSoFar) : Type 0 where
+  pub sizes : Sizes
+  pub sizes_is : r.sizes ≡ Some sizes
+  pub heap : List ℕ
+  pub heap_spelled : SpellsHeap heap (config_of sizes [])
+  pub parts : List Part
+  pub said_is : said ≡ (heap ∷ map layout_line_of r.layouts) ++ (flat_map part_lines parts ++ open_lines r.turns r.body)
+  pub commands_are : r.commands ≡ flat_map part_commands parts
+  pub turns : AllByRecursion IsPart parts
+  pub block_turns : HasTurns r.turns
+  pub fresh : r.begun ≡ false → IsFresh r parts
+  pub started : r.begun ≡ true → 1 ≤ length r.layouts
+  pub range : IsSizes sizes
+  pub layouts : AllByRecursion IsLayout r.layouts
+  pub room : list_all (fits_page sizes.words) r.layouts ≡ true
+  pub few : length r.layouts ≤ 64
+  pub commands : AllByRecursion (IsCommand (config_of sizes [])) r.commands
+  pub body : AllByRecursion (IsCommand (config_of sizes [])) r.body
+  pub count : length r.commands ≤ MOST_COMMANDS
+
+-- before the heap line all lines are empty or comments
+pub record IsBefore (said : List (List ℕ)) (r : ReadSoFar) : Type 0 where
+  pub said_is : said ≡ []
+  pub is : r ≡ nothing
+
+-- what was read, after the lines that aren't empty or comments
+abbrev pub Said : List (List ℕ) → ReadSoFar → Type 0
+Said said r = IsBefore said r ⊎ IsBehind said r
+
+pub few_actors : (s : Sizes) → IsSizes s → AreFew s
+few_actors s r =
+    let words = page_size_range s.words r.words in
+    record {
+      words = (omega (arith, words.0), omega (arith, words.1));
+      threads = (r.threads.0, omega (arith, r.threads.1));
+      workers = (r.workers.0, omega (arith, r.workers.1));
+      registers = (r.registers.0, omega (arith, r.registers.1));
+    }
+
+pub some_layouts : (ls : List Layout) → (length ls == 0) ≡ false → 1 ≤ length ls
+some_layouts ls h = grind (arith, nat_tests)
 
 -- a line of plain words has this first word and these after it
 pub record HasWords (line w : List ℕ) (ws : List (List ℕ)) : Type 0 where
@@ -194,3 +250,87 @@ heap_taken z line range h idle =
     ap (λ (w : List ℕ). bytes_eq w (codes "heap")) words.first in
     let read = heap_again line (first_word line).1 z (subst (SpellsSizes z) (sym words.rest) sizes) in
     rw (idle, first, read) refl
+
+-- a heap line gives the sizes
+pub record IsHeapLine (r u : ReadSoFar) (line : List ℕ) : Type 0 where
+  pub sizes : Sizes
+  pub first : r ≡ nothing
+  pub spelled : SpellsHeap line (config_of sizes [])
+  pub range : IsSizes sizes
+  pub then : u ≡ record r { sizes = Some sizes }
+
+-- a command's line adds the command
+pub record IsCommandLine (z : Sizes) (r u : ReadSoFar) (line : List ℕ) : Type 0 where
+  pub command : Command
+  pub line_is : line ≡ command_line_of command
+  pub own : IsCommand (config_of z []) command
+  pub room : is_full r.turns r.commands ≡ false
+  pub then : u ≡ with_command r r.turns command
+
+-- a line begins a block
+pub record IsTimesLine (r u : ReadSoFar) (line : List ℕ) : Type 0 where
+  pub turns : ℕ
+  pub line_is : line ≡ times_line_of turns
+  pub closed : r.turns ≡ None
+  pub some : 1 ≤ turns
+  pub few : turns ≤ MOST_TURNS
+  pub then : u ≡ record r { begun = true; turns = Some turns; body = [] }
+
+-- a line ends a block
+pub record IsEndLine (r u : ReadSoFar) (line : List ℕ) : Type 0 where
+  pub turns : ℕ
+  pub line_is : line ≡ codes "end"
+  pub opened : r.turns ≡ Some turns
+  pub room : length r.commands + turns * length r.body ≤ MOST_COMMANDS
+  pub then : u ≡ record r { commands = r.commands ++ repeat turns r.body; turns = None; body = [] }
+
+-- a line that is accepted after some sizes, other than a layout line
+abbrev pub IsOtherLine : Option Sizes → ReadSoFar → ReadSoFar → List ℕ → Type 0
+IsOtherLine None r u line = IsHeapLine r u line
+IsOtherLine (Some z) r u line =
+    (1 ≤ length r.layouts) × ((IsCommandLine z r u line ⊎ IsTimesLine r u line) ⊎ IsEndLine r u line)
+
+-- a line with this first word is a layout line
+abbrev pub is_layout_next : ReadSoFar → List ℕ → Bool
+is_layout_next r word = bytes_eq word (codes "layout") && not r.begun && nat_lt (length r.layouts) MOST_LAYOUTS
+
+joined_idle : (b : ℕ) (w : List ℕ) (ws : List (List ℕ)) → (b == 35) ≡ false → is_idle (line_of ((b ∷ w) ∷ ws)) ≡ false
+joined_idle b w [] h = h
+joined_idle b w (v ∷ ws) h = h
+
+pub actor_idle : (actor : Actor) (ws : List (List ℕ)) → is_idle (line_of (actor_word actor ∷ ws)) ≡ false
+actor_idle (Thread t) ws = joined_idle 116 (decimal t) ws refl
+actor_idle (Worker w) ws = joined_idle 119 (decimal w) ws refl
+
+accepted : (r u v : ReadSoFar) (line other : List ℕ) → line ≡ other → u ≡ v → line_in r other ≡ Ok v
+    → line_in r line ≡ Ok u
+accepted r u v line other e d h =
+    ap (λ (x : List ℕ). line_in r x) e ∙ h ∙ ap (λ (x : ReadSoFar). Ok x) (sym d)
+
+heap_accepted : (r u : ReadSoFar) (line : List ℕ) → IsHeapLine r u line → line_in r line ≡ Ok u
+heap_accepted r u line h =
+    let idle : is_idle line ≡ false = ap is_idle h.spelled.line_is in
+    subst (λ (x : ReadSoFar). line_in x line ≡ Ok u) (sym h.first) (heap_taken h.sizes line h.range h.spelled idle
+    ∙ ap (λ (x : ReadSoFar). Ok x) (ap (λ (x : ReadSoFar). record x { sizes = Some h.sizes }) (sym h.first) ∙ sym
+    h.then))
+
+part_accepted : (z : Sizes) (r u : ReadSoFar) (line : List ℕ) → r.sizes ≡ Some z → IsSizes z → 1 ≤ length r.layouts
+    → (IsCommandLine z r u line ⊎ IsTimesLine r u line) ⊎ IsEndLine r u line → line_in r line ≡ Ok u
+part_accepted z r u line is range some (inl (inl h)) =
+    accepted r u _ line (command_line_of h.command) h.line_is h.then (command_taken z r h.command
+    (command_line_of h.command) r.turns (record { sizes_is = is; range = range }) some refl h.room h.own
+    (actor_idle h.command.actor (order_words h.command.order)) refl)
+part_accepted z r u line is range some (inl (inr h)) =
+    accepted r u _ line (times_line_of h.turns) h.line_is h.then (times_taken z r h.turns (times_line_of h.turns)
+    (record { sizes_is = is; range = range }) some h.closed h.some h.few refl refl)
+part_accepted z r u line is range some (inr h) =
+    accepted r u _ line (codes "end") h.line_is h.then (end_taken z r h.turns (codes "end")
+    (record { sizes_is = is; range = range }) some h.opened h.room refl refl)
+
+pub other_accepted : (said : List (List ℕ)) (r u : ReadSoFar) (line : List ℕ) → Said said r
+    → IsOtherLine r.sizes r u line → line_in r line ≡ Ok u
+other_accepted said r u line (inl before) h = heap_accepted r u line
+    (subst (λ (o : Option Sizes). IsOtherLine o r u line) (ap (λ (x : ReadSoFar). x.sizes) before.is) h)
+other_accepted said r u line (inr b) h =
+    let part = subst (λ (o : Option Sizes). IsOtherLine o r u line) b.sizes_is h in
+    part_accepted b.sizes r u line b.sizes_is b.range part.0 part.1
