@@ -49,5 +49,5 @@ pub(crate) fn add(replies: &mut Vec<Reply>, reply: Reply)
     ensures added { replies.new.items ≡ replies.old.items ++ reply ∷ [] }
     ensures room { vec_capacity replies.old ≤ vec_capacity replies.new }
 {
-    let _ = replies.push(reply);
+    replies.push_reserved(reply);
 }

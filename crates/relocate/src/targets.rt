@@ -57,7 +57,7 @@ fn add(pages: &mut Vec<u32>, page: u32)
     ensures added { pages.new.items ≡ pages.old.items ++ page ∷ [] }
     ensures room { vec_capacity pages.old ≤ vec_capacity pages.new }
 {
-    let _ = pages.push(page);
+    pages.push_reserved(page);
 }
 
 /// Opens `count` targets on this memory, and lists their pages' numbers, from 1, in an empty list that has space for
