@@ -2,7 +2,7 @@
 use Rattle.parser.proofs.Names.{List, [], ap, append-nil, append_assoc, arith, inl, inr, length, refl, subst, sym, ℕ}
 use Rattle.parser.proofs.Names.{◌++◌, ◌+◌, ◌<◌, ◌∙◌, ◌∷◌, ◌≡◌, cases_lt, flat_map-append, slice_split-cons_yes}
 use Rattle.parser.proofs.Names.{slice_split, BeginsScript, HaveNoFault, IsFirstFault, IsLineEnd, IsWordEnd}
-use Rattle.parser.proofs.Names.{LacksNewline, StandsAtEnd, StandsInLine, byte_behind, text_of, newline, whole}
+use Rattle.parser.proofs.Names.{LacksNewline, StandsAtEnd, StandsInLine, byte_behind, text_of, newline}
 use Rattle.parser.proofs.Names.{with_newline, LineFault}
 use Rattle.parser.specs.Faults.{HasNoLargeBlock, FaultsShareLine}
 use Rattle.parser.proofs.Lists.{HasNoNewlines, all_to, lines_to}
