@@ -137,3 +137,10 @@ pub blank_there : (n : ℕ) (bits spare row : List Bool) → AreThere n bits spa
 unfolding set_count
 blank_there n bits spare row is view none =
     blank_from_count row (ap (count_by (λ b. b)) (sym view) ∙ sym (count_padded n bits) ∙ none)
+
+-- two bitmaps without a set bit
+pub none_same : (one other : List Bool) → length one ≡ length other → count_by (λ b. b) one ≡ 0
+    → count_by (λ b. b) other ≡ 0 → one ≡ other
+unfolding set_count
+none_same one other long none no_other =
+    blank_from_count one none ∙ ap (λ k. replicate k false) long ∙ sym (blank_from_count other no_other)

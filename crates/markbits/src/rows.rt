@@ -80,12 +80,16 @@ impl Row {
         })
     }
 
-    /// Returns whether the other bitmap has the same bits, and as many. Bitmaps that were cleared in different ways may
-    /// count as different.
+    /// Returns whether the other bitmap has the same bits, and as many. Of two without a set
+    /// bit only the lengths are compared.
+    #[tactic(auto, using(crate::proofs::Cleared::none_same))]
     pub fn is_same(&self, other: &Row) -> bool
         ensures { result ≡ true → self.now ≡ other.now }
     {
-        self.len == other.len && self.bits.is_same(&other.bits)
+        if self.len() != other.len() {
+            return false;
+        }
+        (self.count() == 0 && other.count() == 0) || self.bits.is_same(&other.bits)
     }
 
     /// Returns how many bits are set.

@@ -96,8 +96,7 @@ impl KeptObjects {
         Ok(KeptObjects { objects, layouts })
     }
 
-    /// Returns whether they are this bitmap's objects, by these layouts. Bitmaps that were cleared in different ways may
-    /// count as different.
+    /// Returns whether they are this bitmap's objects, by these layouts.
     fn are_of(&self, layouts: &Layouts, live: &Row) -> bool
         ensures live { result ≡ true → self.now.objects.live ≡ live.now }
         ensures layouts { result ≡ true → self.now.layouts ≡ layouts.now }
