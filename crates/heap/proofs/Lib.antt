@@ -16,3 +16,5 @@ pub mod Sizes
 pub mod Noting
 pub mod Chunks
 pub mod Sorted
+pub mod Going
+pub mod Entries

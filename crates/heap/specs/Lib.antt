@@ -11,3 +11,4 @@ pub mod Found
 pub mod Writing
 pub mod Batches
 pub mod Sorting
+pub mod Entries

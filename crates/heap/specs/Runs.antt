@@ -1,6 +1,6 @@
 -- Runs: consecutive entries of a page's forwarding table, whose objects are copied.
-use Rattle.std.specs.Prelude.{◌≡◌, ℕ, zero, suc, ◌+◌, ◌*◌, ◌/◌, ◌<◌, Bool, true, List, Option, Some, None}
-use Rattle.std.specs.Prelude.{slice_get}
+use Rattle.std.specs.Prelude.{◌≡◌, ℕ, zero, suc, ◌+◌, ◌*◌, ◌/◌, ◌<◌, ◌≤◌, ◌==◌, Bool, true, false, List, Option, Some}
+use Rattle.std.specs.Prelude.{None, length, slice_get}
 use Rattle.std.specs.Prelude.{if◌then◌else◌}
 use Rattle.model.specs.declared.records.Forwarding.{Forwarding}
 use Rattle.model.specs.States.{HeapState}
@@ -22,6 +22,16 @@ with_entries h n e (suc k) = with_entries (with_entry h n (slice_get (of_page h.
 abbrev pub GoTo : ℕ → ℕ → List Forwarding → ℕ → ℕ → Type 0
 GoTo words target side e k =
     (i : ℕ) (f : Forwarding) → i < k → slice_get side (e + i) ≡ Some f → f.to / words ≡ target
+
+-- page n has k entries from number e on, and all of them go to one target
+abbrev pub IsRunOn : HeapState → ℕ → ℕ → ℕ → ℕ → Type 0
+IsRunOn h n target e k =
+    (e + k ≤ length (of_page h.sides n)) × GoTo h.store.words target (of_page h.sides n) e k
+
+-- the object of an entry that may be missing goes to a target
+abbrev pub goes_to : ℕ → ℕ → Option Forwarding → Bool
+goes_to words target None = false
+goes_to words target (Some f) = f.to / words == target
 
 -- notes of copied objects: where they start, and that they are copied
 pub record Notes : Type 0 where

@@ -15,6 +15,7 @@ pub mod references;
 mod registers;
 mod relocating;
 mod runs;
+mod sides;
 mod writing;
 mod writing_by;
 

@@ -2,15 +2,15 @@
 use Rattle.std.proofs.Common.{◌≡◌, ◌≢◌, ◌⊎◌, inl, inr, ℕ, ◌+◌, ◌-◌, ◌*◌, ◌/◌, ◌<◌, ◌≤◌, true, false}
 use Rattle.std.proofs.Common.{List}
 use Rattle.std.proofs.Common.{length, position, Option, Some, None, set, replicate, refl, sym, ◌∙◌, ap, subst}
-use Rattle.std.proofs.Common.{arith, rules}
+use Rattle.std.proofs.Common.{arith, rules, Bool, nat_le, ◌&&◌}
 use Rattle.std.specs.List.{slice_get}
 use Rattle.std.proofs.Math.ListN.{length-set}
-use Rattle.std.specs.Prelude.{Ok, Err, Result, IfOk, ◌==◌}
+use Rattle.std.specs.Prelude.{Ok, Err, Result, IfOk, MatchBool, ◌==◌}
 use Rattle.std.proofs.Math.Nat.{mul-le-mul_left}
 use Rattle.std.proofs.lemmas.Nat.{mul-add-lt}
 use Rattle.std.proofs.lemmas.Bool.Decides.{nat_tests}
 use Rattle.std.proofs.lemmas.Option.{slice_get_within}
-use Rattle.std.proofs.lemmas.Bool.{cases_eq, and_parts, false≢true}
+use Rattle.std.proofs.lemmas.Bool.{cases_eq, and_parts, false≢true, leb-true, true≢false}
 use Rattle.refword.specs.Words.{IsAddress}
 use Rattle.model.specs.declared.limits.TheConstants.{MOST_PAGES}
 use Rattle.model.specs.declared.records.Page.{Page}
@@ -18,7 +18,7 @@ use Rattle.model.specs.declared.records.Room.{Room}
 use Rattle.model.specs.declared.records.Room.TheVariants.{NoFrames, NoPages}
 use Rattle.model.specs.declared.records.Buffer.{Buffer}
 use Rattle.model.specs.Stores.{StoreState, is_open, is_unused, is_protected, state_in, open_fresh, give_words}
-use Rattle.model.specs.Stores.{buffer_of}
+use Rattle.model.specs.Stores.{buffer_of, state_at}
 use Rattle.model.specs.Stores.{Takes, TakesOrLacks, with_words, with_word, fresh_page, take_buffer}
 use Rattle.model.specs.Stores.{page_with_room, free_frame, unused_page, record_count, take_fresh, take_at, top_in}
 use Rattle.model.specs.Protections.{take_target}
@@ -28,6 +28,7 @@ use Rattle.model.proofs.Lists.{get_set_same, get_set_other, get_within, each_set
 use Rattle.page.proofs.Found.{position_within, room_left, free_counts, free_within, room_within, room_passes}
 use Rattle.page.proofs.Keeping.{unused_as, page_at_record, page_at_zero, opened_words, opened_at, given_at}
 use Rattle.page.proofs.RowSizes.{given_rows, fresh_rows}
+use Rattle.page.specs.Lending.{lies_in}
 use Rattle.page.specs.Records.{begins_in, begins_page}
 
 -- the page of a buffer has a record
@@ -256,3 +257,28 @@ buffer_address s b h l room =
     let low : b.page * 1 ≤ b.page * s.words = mul-le-mul_left b.page h.sized.words_low in
     let high = mul-add-lt b.page s.words b.next 1048576 (omega (arith, within, records_few s h)) next in
     record { above = omega (arith, low, page); below = omega (arith, high, h.sized.words) }
+
+-- a buffer that passes the test lies in an open page
+yes_lies : (s : StoreState) (b : Buffer) → lies_in s b ≡ true → LiesIn s b
+unfolding state_at
+yes_lies s b e =
+    let first = and_parts (is_open (state_at s b.page)) (nat_le b.next b.end && nat_le b.end s.words) e in
+    let second = and_parts (nat_le b.next b.end) (nat_le b.end s.words) first.1 in
+    record {
+      page = first.0;
+      order = leb-true b.next b.end second.0;
+      end = leb-true b.end s.words second.1;
+    }
+
+-- a buffer that lies in an open page passes the test
+lies_yes : (s : StoreState) (b : Buffer) → LiesIn s b → lies_in s b ≡ true
+unfolding state_at
+lies_yes s b l = both (is_open (state_at s b.page)) l.page
+  where
+    both : (o : Bool) → o ≡ true → (o && (nat_le b.next b.end && nat_le b.end s.words)) ≡ true
+    both o e = grind (arith, nat_tests, e, l.order, l.end)
+
+-- the test is true exactly for buffers that lie in an open page
+pub buffer_told : (s : StoreState) (b : Buffer) (t : Bool) → t ≡ lies_in s b → MatchBool t (LiesIn s b) (¬ LiesIn s b)
+buffer_told s b true e = yes_lies s b (sym e)
+buffer_told s b false e = λ lies. true≢false (sym (lies_yes s b lies) ∙ sym e)

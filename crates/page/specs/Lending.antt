@@ -1,7 +1,8 @@
 -- Borrowed parts of a frame or a store, and their effect when the borrow ends.
-use Rattle.std.specs.Prelude.{ℕ, ◌==◌, ◌&&◌, Bool, not, List, slice_get, slice_set, is_some}
+use Rattle.std.specs.Prelude.{ℕ, ◌==◌, ◌&&◌, Bool, not, List, slice_get, slice_set, is_some, nat_le}
 use Rattle.std.specs.Borrow.{Lends, MutBor, Fml, Array, u64}
-use Rattle.model.specs.Stores.{StoreState, changed_frame, frame_in, overlay, page_at, with_words}
+use Rattle.model.specs.declared.records.Buffer.{Buffer}
+use Rattle.model.specs.Stores.{StoreState, changed_frame, frame_in, is_open, overlay, page_at, state_at, with_words}
 use Rattle.page.specs.contracts.frame.Frame as frame
 use Rattle.page.specs.contracts.frames.Frames as frames
 use Rattle.page.specs.contracts.store.Store as store
@@ -13,6 +14,10 @@ LendsRun f start r = Lends frame.the_row (Array u64 0) f r (overlay f.now start)
 -- when the borrow ends, a page's words from an offset on are replaced by the written ones, and the rest stays
 abbrev pub LendsPart : MutBor StoreState → ℕ → ℕ → MutBor (List ℕ) → Fml
 LendsPart s page start r = Lends store.the_row (Array u64 0) s r (λ w. with_words s.now page (λ ws. overlay ws start w))
+
+-- a buffer lies in an open page
+abbrev pub lies_in : StoreState → Buffer → Bool
+lies_in s b = is_open (state_at s b.page) && (nat_le b.next b.end && nat_le b.end s.words)
 
 -- when the borrow ends, frame i is as written
 abbrev pub LendsFrame : MutBor (List (List ℕ)) → ℕ → MutBor (List ℕ) → Fml

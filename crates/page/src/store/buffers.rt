@@ -1,13 +1,14 @@
 //! Allocation buffers: the words that a thread takes to allocate objects in.
 
 ghost use Rattle.std.specs.Prelude.{◌≡◌, ◌≤◌, ◌<◌, ◌+◌, ◌-◌, length, slice_get, slice_range};
-ghost use Rattle.std.specs.Prelude.{IfOk, IfSome, count_by, is_none, Some, None, Err, true, ℕ, replicate};
+ghost use Rattle.std.specs.Prelude.{IfOk, IfSome, MatchBool, count_by, is_none, Some, None, Err, true, ℕ, replicate};
 ghost use Rattle.std.specs.Borrow.{sem};
 ghost use Rattle.model.specs.Stores.{page_at, state_in, words_at, take_buffer, give_words, open_fresh, top_in};
 ghost use Rattle.model.specs.Stores.{Takes, TakesOrLacks};
 ghost use Rattle.model.specs.Stores.{is_open, page_with_room, free_frame, unused_page, frame_in, take_fresh};
 ghost use Rattle.model.specs.Owning.{LiesIn, TakesWell};
-ghost use Rattle.page.specs.Lending.{LendsPart};
+ghost use Rattle.model.specs.Stores.{state_at};
+ghost use Rattle.page.specs.Lending.{LendsPart, lies_in};
 ghost use Rattle.page.specs.Records.{begins_page, is_unused_in};
 
 use crate::frame::Frame;
@@ -16,6 +17,28 @@ use model::{Buffer, Page, PageState, Room};
 use std::alloc::AllocError;
 
 impl Store {
+    /// Returns whether a page is open.
+    fn is_open(&self, page: u32) -> bool
+        ensures { result ≡ is_open (state_at self.now page) }
+    {
+        matches!(self.state(page), PageState::Open)
+    }
+
+    /// Returns whether a buffer lies in an open page.
+    fn lies_in(&self, buffer: &Buffer) -> bool
+        ensures { result ≡ lies_in self.now buffer.now }
+    {
+        self.is_open(buffer.page) && buffer.next <= buffer.end && buffer.end <= self.words
+    }
+
+    /// Returns whether a buffer lies in an open page, as `part_mut` requires.
+    #[tactic(auto, using(crate::proofs::Lying::buffer_told))]
+    pub fn can_lend_part(&self, buffer: &Buffer) -> bool
+        ensures { MatchBool result (LiesIn self.now buffer.now) (¬ LiesIn self.now buffer.now) }
+    {
+        self.lies_in(buffer)
+    }
+
     /// Lends the free rest of a buffer that lies in an open page, for writing.
     #[inline(always)]
     pub fn part_mut(&mut self, buffer: &Buffer) -> &mut [u64]

@@ -1,6 +1,6 @@
 use Rattle.heap.specs.Runs.{GoTo}
 use Rattle.model.specs.Bits.{of_page}
-use Rattle.permits.proofs.runs.go_to.Given as goal
+use Rattle.heap.proofs.heap.runs.go_to.Given as goal
 
 -- the entries so far go to the target
 abbrev pub invariant-loop-index : goal.invariant-loop-index

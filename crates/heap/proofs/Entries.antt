@@ -12,7 +12,7 @@ use Rattle.model.specs.declared.records.Forwarding.{Forwarding}
 use Rattle.model.specs.Holding.{AreRising, GoesToPage}
 use Rattle.model.specs.Owning.{Each}
 use Rattle.model.specs.States.{HeapState}
-use Rattle.permits.specs.Permits.{IsSideFor, are_entries, is_entry, is_fine, next_low}
+use Rattle.heap.specs.Entries.{IsSideFor, are_entries, is_entry, is_fine, next_low}
 
 -- one entry meets its conditions if the test says so
 one : (c : Config) (low : ℕ) (f : Forwarding) → is_fine c low f ≡ true

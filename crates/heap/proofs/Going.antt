@@ -4,10 +4,9 @@ use Rattle.std.proofs.Common.{Option, Some, refl, sym, ◌∙◌, ap, arith}
 use Rattle.std.specs.List.{slice_get}
 use Rattle.std.proofs.lemmas.Bool.{eqb-true, true≢false}
 use Rattle.std.proofs.lemmas.Bool.Decides.{nat_tests}
-use Rattle.heap.specs.Runs.{GoTo}
 use Rattle.model.specs.declared.records.Forwarding.{Forwarding}
 use Rattle.model.proofs.Lists.{get_within}
-use Rattle.permits.specs.Permits.{goes_to}
+use Rattle.heap.specs.Runs.{GoTo, goes_to}
 
 -- an entry that exists goes to the target
 goes_there : (words target : ℕ) (o : Option Forwarding) (f : Forwarding) → goes_to words target o ≡ true → o ≡ Some f

@@ -1,10 +1,10 @@
 //! Forwarding tables that a page may be given.
 
 ghost use Rattle.std.specs.Prelude.{◌≡◌, MatchBool, slice_get};
-ghost use Rattle.permits.specs.Permits.{IsSideFor, are_entries, is_entry, next_low};
+ghost use Rattle.heap.specs.Entries.{IsSideFor, are_entries, is_entry, next_low};
 
+use crate::heap::Heap;
 use forward::Side;
-use heap::Heap;
 use model::Forwarding;
 
 /// Returns whether an entry's offset is at least a lowest one, and its object goes to a page.
@@ -49,11 +49,13 @@ fn are_entries(heap: &Heap, side: &Side) -> bool
     true
 }
 
-/// Returns whether the offsets of entries rise and lie in a page, and each entry goes to a page, as
-/// `Heap::raw_set_side` requires.
-#[tactic(auto, using(crate::proofs::Entries::side_told))]
-pub fn can_set_side(heap: &Heap, side: &Side) -> bool
-    ensures { MatchBool result (IsSideFor heap.now side.now) (¬ IsSideFor heap.now side.now) }
-{
-    are_entries(heap, side)
+impl Heap {
+    /// Returns whether the offsets of entries rise and lie in a page, and each entry goes to a page, as
+    /// `raw_set_side` requires.
+    #[tactic(auto, using(crate::proofs::Entries::side_told))]
+    pub fn can_set_side(&self, side: &Side) -> bool
+        ensures { MatchBool result (IsSideFor self.now side.now) (¬ IsSideFor self.now side.now) }
+    {
+        are_entries(self, side)
+    }
 }

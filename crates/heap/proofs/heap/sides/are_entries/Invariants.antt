@@ -1,6 +1,6 @@
 use Rattle.std.proofs.Common.{◌≡◌, drop}
-use Rattle.permits.specs.Permits.{are_entries}
-use Rattle.permits.proofs.sides.are_entries.Given as goal
+use Rattle.heap.specs.Entries.{are_entries}
+use Rattle.heap.proofs.heap.sides.are_entries.Given as goal
 
 -- the entries that are left meet their conditions exactly if all do
 abbrev pub invariant-loop-index : goal.invariant-loop-index
