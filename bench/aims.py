@@ -46,6 +46,8 @@ AIMS = [
         "begin|scan|end|measure|prepare|protect|empty|last"),
     Aim("a mark of a graph of a million objects by four threads, over one", 3, "waves", "4 over one thread",
         r"mark, graph \| 1,", True),
+    Aim("a mark by four threads over bdwgc's by four markers, over the same of one", 1, "markers",
+        "these, four over one"),
     Aim("a mark of a forest by four threads, over one", 2, "waves", "4 over one thread", "mark, forest", True),
     Aim("a first collection of a half-dead graph by four threads, over one", 2.2, "waves", "4 over one thread",
         "first collection", True),

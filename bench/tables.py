@@ -37,13 +37,15 @@ def load_of(table):
 
 
 def machines(tables):
-    """The machines, with the names of their tables if there are several."""
+    """The machines, with the names of their tables if there are several; of the one with the most tables 'all others'."""
     found = {}
     for name, table in tables.items():
         place = f"{table['processor']}, {table['processors']} processors, version {table['version']}"
         found.setdefault(place, []).append(name)
     if len(found) == 1:
         return f"{next(iter(found))}.\n"
+    most = max(found, key=lambda place: len(found[place]))
+    found[most] = ["all others"]
     return "".join(f"- {place}: {', '.join(names)}.\n" for place, names in found.items())
 
 

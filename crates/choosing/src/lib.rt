@@ -1,5 +1,5 @@
-//! Relocation-set selection: the closed pages with the fewest live words for which there are free frames and unused
-//! pages.
+//! Relocation-set selection: the closed pages with the fewest live words for which there is space: free frames and
+//! unused pages.
 #![tactic(auto)]
 
 mod choosing;

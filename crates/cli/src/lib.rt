@@ -1,5 +1,4 @@
-//! The program's command line: parses its words, reads a script, runs it on one thread or by threads, or checks it,
-//! and writes the output.
+//! The program's command line: reads a script, runs or checks it, and writes the output.
 #![tactic(auto)]
 
 mod asking;

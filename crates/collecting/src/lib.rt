@@ -1,4 +1,4 @@
-//! A managed heap that is collected by one call, completely or in parts, and by itself if frames run low.
+//! A managed heap that is collected by one call, in parts, or by itself if frames run low.
 //!
 //! `docs/LIBRARY.md` says under "Collections" when a program collects, and what it may expect.
 #![tactic(auto)]

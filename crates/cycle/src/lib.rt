@@ -1,4 +1,4 @@
-//! Steps of actors on a heap, and recorded heaps, which keep the history of their steps.
+//! Steps of actors on a heap, and recorded heaps, which keep a history.
 //!
 //! # The algorithm
 //!

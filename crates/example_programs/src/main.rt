@@ -1,6 +1,6 @@
-//! Small programs on the library: a list and a tree that stay live among many nodes that are dropped, each on a heap
-//! that is collected when it is full; a cache that lives for millions of steps; and a list on a heap that keeps its
-//! history.
+//! Small programs on the library: a list, a tree, a cache, and a heap that keeps its history. The list and the tree
+//! stay live among many nodes that are dropped, each on a heap that is collected when it is full; the cache lives for
+//! millions of steps.
 #![tactic(auto)]
 
 mod cache;

@@ -1,5 +1,5 @@
-//! The heap for C: a static library whose functions `include/pauseless.h` declares, each thin over a call of a
-//! `ManagedHeap`, with that call's clauses.
+//! The heap for C: the functions that `include/pauseless.h` declares. Each is thin over a call of a `ManagedHeap`, with
+//! that call's clauses.
 //!
 //! C has a `Handle`, with a word that marks it and a pointer to a heap in a box. A call borrows the heap from the
 //! handle; a handle without a heap is recognized by its mark. The header lists what can't be checked here.

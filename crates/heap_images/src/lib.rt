@@ -1,4 +1,4 @@
-//! The verifier, applied to a heap: takes the heap's image, verifies it, and proves that it is sound.
+//! The verifier, applied to a heap, whose image is proved sound.
 //!
 //! The verifier (`verify`) knows nothing of the collector: an image is memory and roots as plain data, and soundness
 //! is defined for any data. The collector's own invariant (`refinement`, `laws`) is about the state of a heap. This

@@ -1,5 +1,5 @@
-//! Hints: addresses of objects that a worker may scan next, which other workers may steal. The promises of a mark
-//! don't depend on hints. No call takes a lock or waits.
+//! Addresses of objects that a worker may scan next, which other workers may steal. The promises of a mark don't depend
+//! on these hints. No call takes a lock or waits.
 #![tactic(auto)]
 
 mod reach;

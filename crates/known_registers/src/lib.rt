@@ -1,5 +1,4 @@
-//! Threads that share a heap, and whose registers are, by contract, at the beginning of a portion what they were at
-//! the end of the thread's last one.
+//! Threads on a shared heap that know, by contract, what their last portion left in their registers.
 #![tactic(auto)]
 
 mod desk;

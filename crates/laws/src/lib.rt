@@ -1,6 +1,6 @@
-//! The laws of the collector: the invariant that every list of allowed transitions keeps, and what it promises to
-//! threads. There is no code here. One function without a body has the laws as its clauses; a crate that needs them
-//! calls it, or uses the lemmas in `proofs/`.
+//! The laws of the collector: the invariant of all transitions, and what it promises to threads. There is no code here.
+//! One function without a body has the laws as its clauses; a crate that needs them calls it, or uses the lemmas in
+//! `proofs/`.
 //!
 //! Two models are compared. The *reference model* (`specs/BirthHeap.antt`) has births that refer to one another; it
 //! has no addresses, and nothing in it moves or is freed. The *address-level model* (`specs/AddressHeap.antt`) has

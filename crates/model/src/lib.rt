@@ -1,5 +1,5 @@
-//! The types that all crates of the heap share: actors, steps, answers and errors, and the records of a heap's state.
-//! The definitions over them are in `specs/`.
+//! Types that all crates of the heap share: actors, steps, answers, errors, and the records of a heap's state. The
+//! definitions over them are in `specs/`.
 //!
 //! `docs/ALGORITHM.md` has the rules, and where each comes from.
 #![tactic(auto)]

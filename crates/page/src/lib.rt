@@ -1,4 +1,4 @@
-//! The page store: pages, the frames that are their memory, and the allocation buffers that threads fill.
+//! The page store: pages, the frames that are their memory, and allocation buffers.
 #![tactic(auto)]
 
 mod copies;

@@ -1,6 +1,6 @@
-//! All names that a program on the library needs: the heap with its configuration and collections, the
-//! heap that keeps a history, the verifier, and reports. The heap is that of Click, Tene and Wolf, "The
-//! Pauseless GC Algorithm" (VEE 2005).
+//! All names that a program on the library needs. They are those of the heap with its configuration and collections,
+//! the heap that keeps a history, the verifier, and reports. The heap is that of Click, Tene and Wolf, "The Pauseless
+//! GC Algorithm" (VEE 2005).
 //!
 //! Make a `Config` by `Config::new`, and a `Heap` from it, which owns the policy by which it is collected, the increment
 //! of its collection in parts, and `Counters` of its collections. The trait `HeapCalls` has its calls: each operation of

@@ -1,5 +1,4 @@
-//! Copying objects of a From page to their places on another page, entry by entry of its forwarding table, or by
-//! halves on threads.
+//! Copying the objects of a From page to another page: by entries of its forwarding table, or by halves on threads.
 #![tactic(auto)]
 
 mod copying;

@@ -1,5 +1,5 @@
-//! A heap that system threads share: one lock, a seat for each thread, and portions of many steps of a thread under
-//! one hold of the lock.
+//! A heap that system threads share: a lock, a seat for each thread, and many steps of a thread under one hold. The
+//! steps of a hold are a portion.
 #![tactic(auto)]
 
 mod acting;

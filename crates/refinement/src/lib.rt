@@ -1,6 +1,6 @@
-//! The heap's state represents a reference model, by way of the address-level model of `laws`, and each accepted step
-//! keeps this and has the reference model's answer. Each step is a transition of the laws, or changes neither model.
-//! There is no code here. One function without a body has this as its clauses, and a crate that needs them calls it.
+//! The state of a heap represents a reference model, and each accepted step has the model's answer. The address-level
+//! model of `laws` is between the two: each step is a transition of the laws, or changes neither model. There is no
+//! code here. One function without a body has this as its clauses, and a crate that needs them calls it.
 //!
 //! `specs/Worlds.antt` reads the address-level model from the state: an object starts at each start bit, and its
 //! header, references and data are the words of its page there. In `specs/Claims.antt`, memory is in order: objects,

@@ -1,5 +1,5 @@
-//! The text that a run prints: the lines of commands, and reports, with the current state of a heap and what each mark
-//! of a history has found.
+//! The text that a run prints: the lines of commands, and reports. A report has the current state of a heap, and what
+//! each mark of a history has found.
 //!
 //! `wording` has the texts of actors, answers and errors, and of a report's parts. `docs/SCRIPT.md` describes the lines
 //! of a report, under 'The report'.

@@ -1,4 +1,4 @@
-//! Runs of scripts on one thread, and the text that they print; `by_check` verifies the heap after every step.
+//! Runs of scripts on one thread, and the text that they print. `by_check` verifies the heap after every step.
 #![tactic(auto)]
 
 mod check;

@@ -1,4 +1,5 @@
-//! A heap that owns its policy, its increment and its counters, and whose calls take typed numbers.
+//! A heap that owns its policy and its counters, and whose calls take typed numbers. It also owns the increment of its
+//! collection in parts.
 //!
 //! Numbers of a thread, a register, a field, a data word, a layout and a global have different types, so a program
 //! that swaps two of different types does not compile. A typed number takes no more memory than the number.

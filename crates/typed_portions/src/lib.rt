@@ -1,4 +1,4 @@
-//! The calls of a thread on a heap that threads share, with typed numbers.
+//! The calls of a thread on a shared heap, with typed numbers.
 #![tactic(auto)]
 
 mod acting;

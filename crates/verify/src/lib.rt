@@ -1,5 +1,5 @@
-//! The verifier of a heap's image: whether memory and roots, as plain data, are a sound heap, or else its first
-//! fault. It knows nothing of the collector that made the image.
+//! The verifier: whether memory and roots, as plain data, are a sound heap, or else the first fault. It knows nothing
+//! of the collector that made them.
 #![tactic(auto)]
 
 mod births;

@@ -1,4 +1,4 @@
-//! Views: read-only access to a complete managed heap, without steps, while nothing changes it.
+//! Views: read-only access to a managed heap, without steps. Nothing changes the heap meanwhile.
 #![tactic(auto)]
 
 mod handle;

@@ -1,4 +1,4 @@
-//! Waves of a mark: many grey objects are scanned at once, on threads, with the effect of one after the other.
+//! Waves of a mark: many grey objects are scanned at once, on threads. The effect is that of scans one after the other.
 #![tactic(auto)]
 
 mod applying;
