@@ -37,7 +37,7 @@ def load_of(table):
 
 
 def machines(tables):
-    """The machines, with the names of their tables if there are several; of the one with the most tables 'all others'."""
+    """The machines, with the names of their tables if there are several; the one with most has 'all others'."""
     found = {}
     for name, table in tables.items():
         place = f"{table['processor']}, {table['processors']} processors, version {table['version']}"

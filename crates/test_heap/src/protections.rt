@@ -87,6 +87,22 @@ fn is_as_before(rt: &impl Abort, heap: &Heap) {
     same(rt, heap.sides().entry_on(1, 0), None);
 }
 
+/// Page 1 has one entry, whose object goes to page 2; and it may be given the forwarding table that it has.
+fn has_one_run(rt: &impl Abort, heap: &Heap) {
+    for (target, first, count, wanted) in [
+        (2, 0, 1, true),
+        (1, 0, 1, false),
+        (2, 0, 2, false),
+        (2, 1, 1, false),
+        (2, 1, 0, true),
+        (2, 2, 0, false),
+    ] {
+        same(rt, heap.can_copy_run(1, target, first, count), wanted);
+    }
+    let side = heap.sides().get(0);
+    same(rt, side.map(|side| heap.can_set_side(side)), Some(true));
+}
+
 /// A protection that is out of memory leaves the heap as it was, and is done when it is repeated.
 fn protects(rt: &impl Abort, mut heap: impl HeldHeap + Drop, step: &Step) -> Result<(), Refusal> {
     close(&mut heap)?;
@@ -97,6 +113,7 @@ fn protects(rt: &impl Abort, mut heap: impl HeldHeap + Drop, step: &Step) -> Res
         return Err(Refusal::Memory);
     }
     same(rt, reply, ONE);
+    has_one_run(rt, heap.heap());
     Ok(())
 }
 

@@ -44,11 +44,8 @@ fn take(rt: &impl Abort, store: &mut Store, n: u32) -> Result<Buffer, Room> {
 }
 
 /// Writes one number over all words of a buffer.
-#[tactic(auto, unfolding(model::specs::Stores::state_at))]
 fn fill(rt: &impl Abort, store: &mut Store, buffer: &Buffer, value: u64) {
-    assert!(rt; matches!(store.state(buffer.page), PageState::Open));
-    let words = store.page_words();
-    assert!(rt; buffer.next <= buffer.end && buffer.end <= words);
+    assert!(rt; store.can_lend_part(buffer));
     store.part_mut(buffer).fill(value);
 }
 
