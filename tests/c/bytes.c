@@ -72,6 +72,17 @@ static void edges(void) {
 /* Each way in which a call fails, after which nothing is written. */
 static void failures(void) {
     unsigned char bytes[16] = {0};
+    uint64_t words[3] = {7, 8, 9};
+    for (uint32_t first = 0; first < 3; first++) {
+        SAME(pauseless_set_many(&heap, 0, 2, first, words, 3), PAUSELESS_NO_DATUM);
+        SAME(pauseless_get_many(&heap, 0, 2, first, words, 3), PAUSELESS_NO_DATUM);
+    }
+    SAME(pauseless_set_many(&heap, 0, 0, UINT32_MAX, words, 3), PAUSELESS_NO_DATUM);
+    SAME(pauseless_set_many(&heap, 0, NULL_REGISTER, 0, words, 1), PAUSELESS_NULL);
+    SAME(pauseless_set_many(&heap, 0, 4, 0, words, 1), PAUSELESS_NO_REGISTER);
+    SAME(pauseless_set_many(&heap, 2, 0, 0, words, 1), PAUSELESS_NO_ACTOR);
+    DONE(pauseless_set_many(&heap, 0, NULL_REGISTER, 9, words, 0));
+    DONE(pauseless_get_many(&heap, 0, NULL_REGISTER, 9, words, 0));
     SAME(pauseless_read_bytes(&heap, 0, 2, 0, bytes, 9), PAUSELESS_NO_DATUM);
     SAME(pauseless_read_bytes(&heap, 0, 2, 8, bytes, 1), PAUSELESS_NO_DATUM);
     SAME(pauseless_read_bytes(&heap, 0, 2, UINT32_MAX, bytes, 1), PAUSELESS_NO_DATUM);

@@ -58,7 +58,8 @@ fn begins(
     protect(rt, book, 4, 5, pages);
     let reply = copy_by(rt, book, depth, &gate);
     same(rt, (depth, reply), (depth, copied(5)));
-    assert!(rt; are_numbered(&gate, 2 * pieces.min(16)), "to depth {depth}");
+    let are_all = are_numbered(&gate, 2 * pieces.min(16));
+    same(rt, (depth, are_all), (depth, true));
     is_empty(rt, book, 2);
 }
 
@@ -84,11 +85,16 @@ fn pass(pieces: &[u32]) -> bool {
 /// The test above detects wrong numbers: one that is missing, used twice, too high or counted from 1.
 #[test]
 fn wrong_numbers_are_seen(rt: HostRuntime) {
-    assert!(rt; pass(&[2, 0, 1]));
-    assert!(rt; !pass(&[0, 1]));
-    assert!(rt; !pass(&[0, 1, 1]));
-    assert!(rt; !pass(&[0, 0, 1, 1]));
-    assert!(rt; !pass(&[0, 1, 3]));
-    assert!(rt; !pass(&[1, 2, 3]));
-    assert!(rt; !pass(&[0, 1, 2, 3]));
+    let wrong: [&[u32]; 6] = [
+        &[0, 1],
+        &[0, 1, 1],
+        &[0, 0, 1, 1],
+        &[0, 1, 3],
+        &[1, 2, 3],
+        &[0, 1, 2, 3],
+    ];
+    same(&rt, pass(&[2, 0, 1]), true);
+    for pieces in wrong {
+        same(&rt, pass(pieces), false);
+    }
 }

@@ -1,14 +1,11 @@
-//! Tests of a program's calls on its heap: those that do several steps, as loads, objects that are made with their
-//! fields, and bulk data; which number of a call names nothing; the counters of collections; and which calls are done
-//! in one go.
+//! Tests of a program's calls on its heap: those that do several steps, as loads and objects that are made with their
+//! fields; which number of a call names nothing; the words that collections find and copy; and which calls are done in
+//! one go. Many data words and bytes by one call, and counters of collections, are tested from C (`tests/c/bytes.c`,
+//! `statistics.c`).
 #![tactic(auto)]
 
 #[cfg(test)]
 mod batches;
-#[cfg(test)]
-mod bulk;
-#[cfg(test)]
-mod counted;
 #[cfg(test)]
 mod data;
 #[cfg(test)]

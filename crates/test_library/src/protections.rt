@@ -1,6 +1,7 @@
 //! Four pages are protected in one step.
 
 use crate::heaps::{Moving, fill_and_close, new_heap, new_managed};
+use crate::same::same;
 use heap::Refusal;
 use model::{Answer, PageList, Phase, Reply, Step};
 use std::alloc::{AllocError, Global};
@@ -29,29 +30,29 @@ fn protection(alloc: Global) -> Result<Step, AllocError> {
 
 /// Each page is copied, and its frame released: none is free before.
 fn empty(rt: &impl Abort, heap: &mut impl Moving) {
-    assert_eq!(rt; heap.act(&Step::Cross), Ok(Answer::Done));
+    same(rt, heap.act(&Step::Cross), Ok(Answer::Done));
     let mut free = 0u64;
     for page in PAGES {
         free = free.saturating_add(1);
         let copied = Answer::CopiedPage { copied: 2 };
-        assert_eq!(rt; heap.work(&Step::CopyPage(page)), Ok(copied));
+        same(rt, heap.work(&Step::CopyPage(page)), Ok(copied));
         let released = Answer::Released { free };
-        assert_eq!(rt; heap.work(&Step::Release(page)), Ok(released));
+        same(rt, heap.work(&Step::Release(page)), Ok(released));
     }
-    assert_eq!(rt; heap.progress(), (Phase::Relocating, true, 0));
+    same(rt, heap.progress(), (Phase::Relocating, true, 0));
 }
 
 /// Nothing was done, and the same step is done when it is repeated.
 fn protects_again(rt: &impl Abort, heap: &mut impl Moving, step: &Step, before: &str, after: &str) {
-    assert_eq!(rt; after, before);
-    assert_eq!(rt; heap.progress(), (Phase::Idle, true, 0));
-    assert_eq!(rt; heap.work(step), ALL);
+    same(rt, after, before);
+    same(rt, heap.progress(), (Phase::Idle, true, 0));
+    same(rt, heap.work(step), ALL);
 }
 
 /// The pages are protected and emptied. If the step is out of memory, the heap is as it was, and all is done when the
 /// step is repeated; the test then fails as out of memory.
 fn protect(rt: &impl Abort, alloc: Global, mut heap: impl Moving + Drop) -> Result<(), Fail> {
-    assert_eq!(rt; fill_and_close(&mut heap)?, EIGHT);
+    same(rt, fill_and_close(&mut heap)?, EIGHT);
     let step = protection(alloc)?;
     let before = heap.text(alloc)?;
     let reply = heap.work(&step);
@@ -59,9 +60,9 @@ fn protect(rt: &impl Abort, alloc: Global, mut heap: impl Moving + Drop) -> Resu
         let after = heap.text(alloc)?;
         protects_again(rt, &mut heap, &step, &before, &after);
     } else {
-        assert_eq!(rt; reply, ALL);
+        same(rt, reply, ALL);
     }
-    assert_eq!(rt; heap.progress(), (Phase::ProtectCrossing, false, 8));
+    same(rt, heap.progress(), (Phase::ProtectCrossing, false, 8));
     empty(rt, &mut heap);
     reply?;
     Ok(())

@@ -1,6 +1,7 @@
 //! Writers that fail in each mode: at some write, or when they are flushed. The program itself tests words, scripts
 //! and files.
 
+use crate::same::same;
 use cli::{AskFault, Asked, ask, serve};
 use std::alloc::Global;
 use std::io;
@@ -135,12 +136,12 @@ fn is_told(
     } else {
         (3, "pauseless: cannot write\n")
     };
-    assert_eq!(rt; status, wanted);
-    assert_eq!(rt; writer.failures == 0, is_enough);
-    assert!(rt; writer.failures < 2);
-    assert_eq!(rt; writer.taken.len() == what.output.len(), is_enough);
-    assert!(rt; what.output.as_bytes().starts_with(&writer.taken));
-    assert_eq!(rt; errors.as_slice(), fault.as_bytes());
+    same(rt, status, wanted);
+    same(rt, writer.failures == 0, is_enough);
+    same(rt, writer.failures < 2, true);
+    same(rt, writer.taken.len() == what.output.len(), is_enough);
+    same(rt, what.output.as_bytes().starts_with(&writer.taken), true);
+    same(rt, errors.as_slice(), fault.as_bytes());
     Ok(())
 }
 
@@ -192,9 +193,13 @@ fn flush_is_told(
     let mut writer = made_to_fail(alloc, 8, usize::MAX);
     writer.is_flushed = false;
     let (status, writer, errors) = served_by(rt, alloc, what.words, capacity, writer)?;
-    assert_eq!(rt; status, 3);
-    assert_eq!(rt; writer.taken.as_slice(), what.output.as_bytes());
-    assert_eq!(rt; errors.as_slice(), b"pauseless: cannot write\n".as_slice());
+    same(rt, status, 3);
+    same(rt, writer.taken.as_slice(), what.output.as_bytes());
+    same(
+        rt,
+        errors.as_slice(),
+        b"pauseless: cannot write\n".as_slice(),
+    );
     Ok(())
 }
 
