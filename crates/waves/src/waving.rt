@@ -6,7 +6,7 @@ ghost use Rattle.drains.specs.Drains.{IsReady, IsDrained, ObjectsDone, NoneTodo,
 
 use crate::applying::apply_parts;
 use crate::listing::{Extent, extent_of, list_grey};
-use crate::ordering::are_scattered;
+use crate::ordering::{are_orderly, are_scattered};
 use crate::parting::{count_parts, find_parts};
 use drains::{Portion, is_alone, mark_globals, scan_listed, scan_objects};
 use heap::{Batch, Groups, Heap};
@@ -44,7 +44,7 @@ struct Course {
     before: u64,
     /// How many objects are scanned in the next portion.
     portion: u64,
-    /// Whether that portion is next: what the last wave has marked lies in order.
+    /// Whether that portion is next: what the last wave has marked, or what grey objects refer to, lies in order.
     is_orderly: bool,
 }
 
@@ -65,6 +65,13 @@ impl Course {
     /// Returns whether more objects are grey than before the last round, by an eighth, or no round was last.
     fn is_growing(&self, objects: u64) -> bool {
         objects > self.before.saturating_add(self.before / 8)
+    }
+
+    /// Goes on with a portion: a long one, if objects lie in order.
+    fn go_on(&mut self, is_orderly: bool) {
+        self.before = 0;
+        self.is_orderly = is_orderly;
+        self.portion = if is_orderly { LONGEST } else { PORTION };
     }
 
     /// Returns how many objects the next portion scans; the one after it may be twice as long.
@@ -156,14 +163,14 @@ fn try_wave<R: Threads + Sync>(
     ensures few { result ≤ most }
 {
     let found = wave(rt, heap, worker, most, extent, &mut course.parts);
-    course.before = 0;
-    course.is_orderly = !are_scattered(heap, &course.parts);
-    course.portion = if course.is_orderly { LONGEST } else { PORTION };
+    let is_orderly = !are_scattered(heap, &course.parts);
+    course.go_on(is_orderly);
     found
 }
 
 /// Scans all objects that are grey now, one after the other on this thread, so that those which they mark are grey
-/// afterwards. Returns how many it scanned: none if they are more than `most`, or if out of memory for their list.
+/// afterwards. Returns how many it scanned: none if what they refer to lies in order, for which a long portion is next;
+/// if they are more than `most`; or if out of memory for their list.
 fn try_round(heap: &mut Heap, worker: u32, most: u64, extent: Extent, course: &mut Course) -> u64
     requires { IsReady heap.old worker }
     ensures done { ObjectsDone heap.old worker result heap.new }
@@ -171,6 +178,10 @@ fn try_round(heap: &mut Heap, worker: u32, most: u64, extent: Extent, course: &m
 {
     course.before = extent.objects;
     if list_grey(heap, extent.end, &mut course.grey).is_err() || course.grey.len() as u64 > most {
+        return 0;
+    }
+    if are_orderly(heap, &course.grey) {
+        course.go_on(true);
         return 0;
     }
     scan_listed(heap, worker, &course.grey)
