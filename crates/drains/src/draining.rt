@@ -3,7 +3,7 @@
 ghost use Rattle.std.specs.Prelude.{◌≡◌, ◌≢◌, ◌<◌, ◌≤◌, ◌∷◌, Ok, Some, None, MatchBool, slice_get};
 ghost use Rattle.std.specs.Prelude.{reverse, not, is_some, true, false, IfSome, length};
 ghost use Rattle.std.specs.List.{list_any};
-ghost use Rattle.model.specs.Scans.{is_scan_of, is_taken, may_scan, next_todo, next_drain};
+ghost use Rattle.model.specs.Scans.{is_taken, may_scan, next_todo, next_drain};
 ghost use Rattle.drains.specs.Drains.{IsDrained, IsReady, NoneTodo, ObjectsDone, KeepsPlain};
 ghost use Rattle.drains.specs.Waiting.{AreWaiting, IsAlone, IsNext};
 
@@ -11,29 +11,9 @@ use crate::backlog::{Waiting, note_all};
 use crate::globals::mark_globals;
 use crate::whole::scan_object;
 use heap::Heap;
-use marker::next_todo;
+use marker::{is_taken, next_todo};
 use model::Scan;
 use refword::Addr;
-
-/// Returns whether a worker's scan is of the object at an address.
-#[inline(always)]
-fn is_scan_of(address: u64, scan: Option<Scan>) -> bool
-    ensures { result ≡ is_scan_of address scan }
-{
-    match scan {
-        None => false,
-        Some(scan) => scan.object.number() == address,
-    }
-}
-
-/// Returns whether some worker has the object at an address.
-#[inline(always)]
-#[tactic(auto, unfolding(model::specs::Scans::is_taken))]
-pub(crate) fn is_taken(heap: &Heap, address: u64) -> bool
-    ensures { result ≡ is_taken heap.now address }
-{
-    heap.workers().iter().any(|scan| is_scan_of(address, *scan))
-}
 
 /// Returns whether a worker's scan is of some object.
 fn is_scan(scan: Option<Scan>) -> bool

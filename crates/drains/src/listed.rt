@@ -6,9 +6,9 @@ ghost use Rattle.drains.specs.Drains.{IsReady, ObjectsDone};
 ghost use Rattle.drains.specs.Scans.{IsScanned};
 
 use crate::backlog::{Waiting, note_all};
-use crate::draining::is_taken;
 use crate::whole::scan_object;
 use heap::Heap;
+use marker::is_taken;
 use refword::Addr;
 
 /// Returns whether the object at an address is grey, and no worker has it.

@@ -9,4 +9,4 @@ mod scans;
 pub use cycles::{end_mark, start_mark};
 pub use marks::mark;
 pub use next::next_todo;
-pub use scans::{pick, scan_field, scan_global};
+pub use scans::{is_taken, pick, scan_field, scan_global};

@@ -27,6 +27,7 @@ fn scan_of(heap: &Heap, worker: u32) -> Option<Scan>
 }
 
 /// Returns whether a worker's scan is of the object at an address.
+#[inline(always)]
 fn is_scan_of(address: u64, scan: Option<Scan>) -> bool
     ensures { result ≡ is_scan_of address scan }
 {
@@ -37,8 +38,9 @@ fn is_scan_of(address: u64, scan: Option<Scan>) -> bool
 }
 
 /// Returns whether some worker has the object at an address.
+#[inline(always)]
 #[tactic(auto, unfolding(model::specs::Scans::is_taken))]
-pub(crate) fn is_taken(heap: &Heap, address: u64) -> bool
+pub fn is_taken(heap: &Heap, address: u64) -> bool
     ensures { result ≡ is_taken heap.now address }
 {
     heap.workers().iter().any(|scan| is_scan_of(address, *scan))
