@@ -6,12 +6,12 @@
      keep WORDS COUNT                        so many objects are made, and each becomes the head of a list
      drop WORDS COUNT                        so many objects are made that nobody keeps
      timed waves-SHAPE COUNT WORDS MARKERS TIMES
-                                             a shape is made and collected by so many markers, and how long that took
-                                             is printed: the objects, and the median and the longest in nanoseconds
+                                             a shape is made, and collected TIMES times by MARKERS markers: prints the
+                                             objects, and the median and the longest of these in nanoseconds
 
    A shape is list, half, tree, forest or graph. An object of WORDS words has a reference and data; one of a tree, a
-   forest or a graph two references and a datum. All but the last have one marker. Nothing is collected while a shape is
-   made. Two runs of the same numbers but for the
+   forest or a graph two references and a datum. All but 'timed' have one marker. Nothing is collected while a shape
+   is made. Two runs of the same numbers but for the
    last one differ in one loop alone. 'keep' and 'drop' begin with as much memory as the heap of
    crates/bench_collections has.
 

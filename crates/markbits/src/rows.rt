@@ -80,8 +80,8 @@ impl Row {
         })
     }
 
-    /// Returns whether the other bitmap has the same bits, and as many. Of two without a set
-    /// bit only the lengths are compared.
+    /// Returns whether the other bitmap has the same bits, and as many. Of two without a set bit only the lengths are
+    /// compared.
     #[tactic(auto, using(crate::proofs::Cleared::none_same))]
     pub fn is_same(&self, other: &Row) -> bool
         ensures { result ≡ true → self.now ≡ other.now }

@@ -1,4 +1,5 @@
-//! Many data words and bytes by one call. `tests/c/bytes.c` has them at all places, and each error.
+//! Many data words and bytes by one call. `tests/c/bytes.c` has them at all places, and each error but that of a
+//! parked thread.
 
 use crate::same::same;
 use collecting::{Collect, Policy};

@@ -83,9 +83,9 @@ fn with_fields(jumps: Jumps, heap: &Heap, address: Addr) -> Jumps {
     all
 }
 
-/// Returns whether most objects to which these refer, one after another, lie on pages near each other, as in trees and
-/// lists: then one thread, with the object that was marked last as the next one, is as fast as a wave. Of few objects
-/// that isn't known.
+/// Returns whether most objects to which the first of these refer, by their first references and one after another, lie
+/// on pages near each other, as in trees and lists: then one thread, with the object that was marked last as the next
+/// one, is as fast as a wave. Returns false for fewer objects than are looked at. It decides the order of scans alone.
 pub(crate) fn are_orderly(heap: &Heap, grey: &[Addr]) -> bool {
     if grey.len() < SAMPLE {
         return false;
