@@ -17,3 +17,4 @@ pub mod Runs
 pub mod Usable
 pub mod Untouched
 pub mod Emptied
+pub mod Swapping

@@ -11,3 +11,4 @@ pub mod Sizes
 pub mod Whole
 pub mod Kept
 pub mod Changing
+pub mod Owned

@@ -239,6 +239,18 @@ impl Frames {
         self.kept.truncate(most);
     }
 
+    /// Swaps the words of a frame with others.
+    pub(crate) fn swap(&mut self, number: usize, other: &mut Frame)
+        requires { number < length self.old }
+        ensures frames { self.new ≡ slice_set self.old number other.old }
+        ensures other { slice_get self.old number ≡ Some other.new }
+    {
+        let at = self.held_at;
+        put_back(&mut self.held, &mut self.frames, at);
+        self.held_at = self.frames.len();
+        std::mem::swap(other, &mut self.frames[number]);
+    }
+
     /// Puts a frame in the place of another, which it returns.
     fn exchange(&mut self, number: usize, frame: Frame) -> Frame
         requires { number < length self.old }

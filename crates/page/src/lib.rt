@@ -6,6 +6,7 @@ mod frame;
 mod frames;
 mod index;
 mod kept;
+mod owned;
 mod size;
 mod store;
 
@@ -13,5 +14,7 @@ pub use copies::many;
 pub use frame::Frame;
 pub use frames::Frames;
 pub use model::{Buffer, Page, PageState, Room};
+pub use owned::{OwnedPage, Part};
 pub use pieces::{Cutter, PieceGate, cut_off};
+pub use size::PageSize;
 pub use store::{Store, record_count};

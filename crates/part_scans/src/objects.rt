@@ -1,0 +1,152 @@
+//! Scans of single objects.
+
+ghost use Rattle.std.specs.Prelude.{◌≡◌, ◌≤◌, ◌<◌, ◌+◌, ◌++◌, ◌^◌, length, true, false, IfSome, Some};
+ghost use Rattle.std.specs.Vec.{vec_len, vec_capacity};
+ghost use Rattle.model.specs.States.{change_at};
+ghost use Rattle.model.specs.References.{read_reference};
+ghost use Rattle.part_scans.specs.Scans.{mark_word, send_word, mark_words, send_words, scan_own, word_of, write_on};
+ghost use Rattle.part_scans.specs.Scans.{AllLeadOn, bits_lead_on, leads_on, is_grey_own, is_marked_own, IsScannable, end_on};
+ghost use Rattle.part_scans.specs.Scenes.{marked_in, refs_of};
+
+use crate::marks::{Hints, mark_target};
+use crate::scene::{Scene, read_reference};
+use page::OwnedPage;
+use refword::Word;
+use std::alloc::Global;
+
+/// Returns the word at an offset of a page, if there is one.
+#[inline(always)]
+fn word_of(pages: &[OwnedPage], index: usize, offset: usize) -> Option<u64>
+    ensures { result ≡ word_of pages.now index offset }
+{
+    let page = pages.get(index)?;
+    page.frame.get(offset)
+}
+
+/// Writes a word at an offset of a page, if there is one.
+#[inline(always)]
+#[tactic(auto, unfolding(crate::specs::Scans::write_on))]
+fn set_word(pages: &mut [OwnedPage], index: usize, offset: usize, value: u64)
+    ensures { pages.new ≡ change_at pages.old index (write_on offset value) }
+{
+    if index < pages.len() {
+        let page = &mut pages[index];
+        page.frame.set(offset, value);
+    }
+}
+
+/// Marks the reference at an offset of a page, and writes it back: does nothing, if its bits are 0.
+#[inline(always)]
+#[tactic(auto, unfolding(crate::specs::Scans::mark_word, crate::specs::Scans::send_word))]
+fn mark_word(
+    scene: &Scene<'_>,
+    first: usize,
+    pages: &mut [OwnedPage],
+    sent: &mut Vec<Word, Global>,
+    index: usize,
+    offset: usize,
+    hints: &mut Hints,
+)
+    requires room { vec_len sent.old < vec_capacity sent.old }
+    ensures pages { pages.new ≡ mark_word scene.now first pages.old index offset }
+    ensures sent { sent.new.items ≡ sent.old.items ++ send_word scene.now first pages.old index offset }
+    ensures capacity { vec_capacity sent.new ≡ vec_capacity sent.old }
+{
+    let Some(bits) = word_of(pages, index, offset) else {
+        return;
+    };
+    if bits == 0 {
+        return;
+    }
+    let word = scene.marked(read_reference(bits));
+    set_word(pages, index, offset, word.bits());
+    mark_target(scene, first, pages, sent, word, hints);
+}
+
+/// Marks `count` references from an offset of a page on, and writes them back.
+#[inline(always)]
+fn mark_words(
+    scene: &Scene<'_>,
+    first: usize,
+    pages: &mut [OwnedPage],
+    sent: &mut Vec<Word, Global>,
+    index: usize,
+    offset: usize,
+    count: u32,
+    hints: &mut Hints,
+)
+    requires room { vec_len sent.old + count ≤ vec_capacity sent.old }
+    requires fits { offset + count < 2 ^ 64 }
+    ensures pages { pages.new ≡ mark_words scene.now first pages.old index offset count }
+    ensures sent { sent.new.items ≡ sent.old.items ++ send_words scene.now first pages.old index offset count }
+{
+    for number in 0..count {
+        mark_word(scene, first, pages, sent, index, offset + number as usize, hints);
+    }
+}
+
+/// Returns whether a reference is null or leads to a page that has a number.
+#[inline(always)]
+fn leads_on(scene: &Scene<'_>, word: Word) -> bool
+    ensures { result ≡ leads_on scene.now word }
+{
+    match word.addr() {
+        None => true,
+        Some(address) => 0 < scene.page_of(address.number()),
+    }
+}
+
+/// Returns the same of the bits of a reference, if there are any.
+#[inline(always)]
+fn bits_lead_on(scene: &Scene<'_>, bits: u64) -> bool
+    ensures { result ≡ bits_lead_on scene.now (Some bits) }
+{
+    bits == 0 || leads_on(scene, scene.marked(read_reference(bits)))
+}
+
+/// Returns whether `count` words from an offset of a page on exist, and lead to pages.
+#[inline(always)]
+fn all_lead_on(
+    scene: &Scene<'_>,
+    pages: &[OwnedPage],
+    index: usize,
+    offset: usize,
+    count: u32,
+) -> bool
+    requires fits { offset + count < 2 ^ 64 }
+    ensures { result ≡ true → AllLeadOn scene.now pages.now index offset count }
+{
+    for number in 0..count {
+        let Some(bits) = word_of(pages, index, offset + number as usize) else {
+            return false;
+        };
+        if !bits_lead_on(scene, bits) {
+            return false;
+        }
+    }
+    true
+}
+
+/// Returns whether the object at an offset of a page is marked and grey.
+#[inline(always)]
+fn is_pending(pages: &[OwnedPage], index: usize, offset: usize) -> bool
+    ensures grey { result ≡ true → is_grey_own pages.now index offset ≡ true }
+    ensures marked { result ≡ true → is_marked_own pages.now index offset ≡ true }
+{
+    match pages.get(index) {
+        None => false,
+        Some(page) => page.grey.test(offset) && page.marked.test(offset),
+    }
+}
+
+/// Makes the object at an offset of a page no longer grey.
+#[inline(always)]
+#[tactic(auto, unfolding(crate::specs::Scans::end_on))]
+fn end_scan(pages: &mut [OwnedPage], index: usize, offset: usize)
+    ensures { pages.new ≡ change_at pages.old index (end_on offset) }
+{
+    if index < pages.len() {
+        let page = &mut pages[index];
+        page.grey.put(offset, false);
+    }
+}
