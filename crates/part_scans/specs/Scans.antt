@@ -130,6 +130,13 @@ pub record IsScannable (s : SceneState) (ps : List OwnedPage) (i o k : ℕ) : Ty
   pub refs : k ≡ refs_of s (word_of ps i o)
   pub leads : AllLeadOn s ps i (o + 1) k
 
+-- the object at an offset of a page was scanned, and has k references; or it was left, and nothing happened
+abbrev pub ScansOne : SceneState → ℕ → ℕ → ℕ → Option ℕ → List OwnedPage → List Reference → List OwnedPage
+    → List Reference → Type 0
+ScansOne s first i o None ps sent qs after = (qs ≡ ps) × (after ≡ sent)
+ScansOne s first i o (Some k) ps sent qs after =
+    IsScannable s ps i o k × (qs ≡ scan_own s first ps i o k) × (after ≡ sent ++ send_words s first ps i (o + 1) k)
+
 -- several objects
 
 -- objects at these places, by page of the part and offset, were scanned one after the other, with k references each:
@@ -141,9 +148,14 @@ Scans s first (x ∷ xs) ps sent qs after =
     IsScannable s ps x.0 x.1 x.2
     × Scans s first xs (scan_own s first ps x.0 x.1 x.2) (sent ++ send_words s first ps x.0 (x.1 + 1) x.2) qs after
 
+-- n objects were scanned so
+pub record AreScanned (s : SceneState) (first n : ℕ) (ps : List OwnedPage) (sent : List Reference)
+    (qs : List OwnedPage) (after : List Reference) : Type 0 where
+  pub places : List (ℕ × ℕ × ℕ)
+  pub count : length places ≡ n
+  pub scans : Scans s first places ps sent qs after
+
 -- objects of a part were scanned
 pub record PartScanned (s : SceneState) (p q : Part) : Type 0 where
   pub first : q.first ≡ p.first
-  pub places : List (ℕ × ℕ × ℕ)
-  pub count : q.scanned ≡ length places
-  pub scans : Scans s p.first places p.pages.items p.sent.items q.pages.items q.sent.items
+  pub scans : AreScanned s p.first q.scanned p.pages.items p.sent.items q.pages.items q.sent.items

@@ -1,6 +1,6 @@
 //! Marks of objects, on a part's own pages or by a note for other parts.
 
-ghost use Rattle.std.specs.Prelude.{◌≡◌, ◌<◌, ◌+◌, ◌++◌, length, slice_get, Some};
+ghost use Rattle.std.specs.Prelude.{◌≡◌, ◌≤◌, ◌<◌, ◌+◌, ◌++◌, length};
 ghost use Rattle.std.specs.Vec.{vec_len, vec_capacity};
 ghost use Rattle.model.specs.References.{read_reference};
 ghost use Rattle.part_scans.specs.Scans.{mark_on, mark_own, send_other, mark_target, send_target};
@@ -51,6 +51,7 @@ pub(crate) fn mark_own(
     requires room { vec_len sent.old < vec_capacity sent.old }
     ensures pages { pages.new ≡ mark_own scene.now first pages.old address }
     ensures sent { sent.new.items ≡ sent.old.items ++ send_other scene.now first (length pages.old) address }
+    ensures len { vec_len sent.new ≤ vec_len sent.old + 1 }
     ensures capacity { vec_capacity sent.new ≡ vec_capacity sent.old }
 {
     let page = scene.page_of(address.number()) as usize;
@@ -77,6 +78,7 @@ pub(crate) fn mark_target(
     requires room { vec_len sent.old < vec_capacity sent.old }
     ensures pages { pages.new ≡ mark_target scene.now first pages.old word }
     ensures sent { sent.new.items ≡ sent.old.items ++ send_target scene.now first (length pages.old) word }
+    ensures len { vec_len sent.new ≤ vec_len sent.old + 1 }
     ensures capacity { vec_capacity sent.new ≡ vec_capacity sent.old }
 {
     let Some(address) = word.addr() else {

@@ -5,7 +5,7 @@ ghost use Rattle.std.specs.Vec.{vec_len, vec_capacity};
 ghost use Rattle.model.specs.States.{change_at};
 ghost use Rattle.model.specs.References.{read_reference};
 ghost use Rattle.part_scans.specs.Scans.{mark_word, send_word, mark_words, send_words, scan_own, word_of, write_on};
-ghost use Rattle.part_scans.specs.Scans.{AllLeadOn, bits_lead_on, leads_on, is_grey_own, is_marked_own, IsScannable, end_on};
+ghost use Rattle.part_scans.specs.Scans.{AllLeadOn, bits_lead_on, leads_on, is_grey_own, is_marked_own, ScansOne, end_on};
 ghost use Rattle.part_scans.specs.Scenes.{marked_in, refs_of};
 
 use crate::marks::{Hints, mark_target};
@@ -50,6 +50,7 @@ fn mark_word(
     requires room { vec_len sent.old < vec_capacity sent.old }
     ensures pages { pages.new ≡ mark_word scene.now first pages.old index offset }
     ensures sent { sent.new.items ≡ sent.old.items ++ send_word scene.now first pages.old index offset }
+    ensures len { vec_len sent.new ≤ vec_len sent.old + 1 }
     ensures capacity { vec_capacity sent.new ≡ vec_capacity sent.old }
 {
     let Some(bits) = word_of(pages, index, offset) else {
@@ -149,4 +150,35 @@ fn end_scan(pages: &mut [OwnedPage], index: usize, offset: usize)
         let page = &mut pages[index];
         page.grey.put(offset, false);
     }
+}
+
+/// Scans the object at an offset of a page completely, if it is marked and grey, its references are on the page and lead
+/// to pages, and there is space for as many notes. Returns how many references it has, or `None` if it is left.
+#[inline(always)]
+#[tactic(auto, unfolding(crate::specs::Scans::scan_own))]
+pub(crate) fn scan_object(
+    scene: &Scene<'_>,
+    first: usize,
+    pages: &mut [OwnedPage],
+    sent: &mut Vec<Word, Global>,
+    index: usize,
+    offset: usize,
+    hints: &mut Hints,
+) -> Option<u32>
+    requires { offset < 2 ^ 63 }
+    ensures { ScansOne scene.now first index offset result pages.old sent.old.items pages.new sent.new.items }
+{
+    if !is_pending(pages, index, offset) {
+        return None;
+    }
+    let refs = scene.refs_of(word_of(pages, index, offset));
+    if sent.capacity() - sent.len() < refs as usize {
+        return None;
+    }
+    if !all_lead_on(scene, pages, index, offset + 1, refs) {
+        return None;
+    }
+    mark_words(scene, first, pages, sent, index, offset + 1, refs, hints);
+    end_scan(pages, index, offset);
+    Some(refs)
 }

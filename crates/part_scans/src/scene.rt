@@ -1,7 +1,7 @@
 //! What scans read of a heap, apart from the pages that they change.
 
-ghost use Rattle.std.specs.Prelude.{◌≡◌, ◌<◌, ◌^◌};
-ghost use Rattle.model.specs.Configs.{is_page_size};
+ghost use Rattle.std.specs.Prelude.{◌≡◌, ◌≤◌, ◌<◌, ◌^◌, ◌/◌, ◌%◌};
+ghost use Rattle.model.specs.declared.limits.TheConstants.{MOST_WORDS};
 ghost use Rattle.model.specs.References.{read_reference};
 ghost use Rattle.part_scans.specs.Scenes.{marked_in, refs_of, resolved};
 
@@ -37,11 +37,18 @@ impl<'a> Model for Scene<'a> {
     ghost Value = { SceneState };
 
     ghost view = { λ s. record { words = s.words; nmt = s.nmt; sides = s.sides.now; layouts = s.layouts.now } };
+
+    ghost use Rattle.std.specs.Prelude.{◌≤◌, ◌<◌};
+    ghost use Rattle.model.specs.declared.limits.TheConstants.{MOST_WORDS};
+
+    ghost invariant = { λ s. (0 < s.words) × (s.words ≤ MOST_WORDS) };
 }
 
 impl<'a> Scene<'a> {
-    /// Returns a scene.
+    /// Returns the scene of a heap with pages of this size.
     pub fn new(words: PageSize, nmt: bool, sides: &'a Sides, layouts: &'a Layouts) -> Scene<'a>
+        requires low { 0 < words }
+        requires high { words ≤ MOST_WORDS }
         ensures { result ≡ record { words = words; nmt = nmt; sides = sides.now; layouts = layouts.now } }
     {
         Scene {
@@ -63,7 +70,8 @@ impl<'a> Scene<'a> {
     /// Returns the offset of an address in its page.
     #[inline(always)]
     pub(crate) fn offset_of(&self, address: u64) -> u64
-        ensures { result ≡ address % self.now.words }
+        ensures value { result ≡ address % self.now.words }
+        ensures range { result ≤ MOST_WORDS }
     {
         self.words.offset_of(address)
     }

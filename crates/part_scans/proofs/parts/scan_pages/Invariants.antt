@@ -1,0 +1,8 @@
+use Rattle.std.proofs.Common.{◌≤◌}
+use Rattle.part_scans.specs.Scans.{AreScanned}
+use Rattle.part_scans.proofs.parts.scan_pages.Given as goal
+
+abbrev pub invariant-loop-turn : goal.invariant-loop-turn
+invariant-loop-turn l =
+    (l.done ≤ l._turn)
+    × AreScanned l.scene l.first l.done l.fn.pages l.fn.sent.items l.pages l.sent.items
