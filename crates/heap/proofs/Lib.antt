@@ -18,3 +18,5 @@ pub mod Chunks
 pub mod Sorted
 pub mod Going
 pub mod Entries
+pub mod Slots
+pub mod SwappedRows

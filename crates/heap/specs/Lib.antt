@@ -12,3 +12,4 @@ pub mod Writing
 pub mod Batches
 pub mod Sorting
 pub mod Entries
+pub mod Owning

@@ -11,6 +11,7 @@ mod making;
 mod marks;
 mod noting;
 pub mod opening;
+mod owning;
 pub mod references;
 mod registers;
 mod relocating;

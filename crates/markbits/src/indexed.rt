@@ -1,6 +1,6 @@
 //! Bitmaps with an index of those that have a bit set.
 
-ghost use Rattle.std.specs.Prelude.{◌≡◌, replicate, slice_get, slice_set, map, false, [], IfOk, ◌==◌};
+ghost use Rattle.std.specs.Prelude.{◌≡◌, replicate, slice_get, slice_set, get_or, map, false, [], IfOk, ◌==◌};
 ghost use Rattle.std.specs.Option.{option_copied};
 ghost use Rattle.model.specs.States.{change_at};
 ghost use Rattle.model.specs.Bits.{put_bit, bit_on, bit_count};
@@ -119,6 +119,16 @@ impl IndexedRows {
         ensures { self.new ≡ slice_set self.old index row }
     {
         self.rows.place(index, row);
+        settle(&mut self.busy, &self.rows, index);
+    }
+
+    /// Swaps the bitmap of an index, if it exists, with another one.
+    #[tactic(auto, using(crate::proofs::Busy::settled_placed))]
+    pub fn swap_row(&mut self, index: usize, other: &mut Row)
+        ensures rows { self.new ≡ slice_set self.old index other.old }
+        ensures other { other.new ≡ get_or self.old index other.old }
+    {
+        self.rows.swap_row(index, other);
         settle(&mut self.busy, &self.rows, index);
     }
 

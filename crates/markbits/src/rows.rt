@@ -3,7 +3,7 @@
 mod kept;
 
 ghost use Rattle.std.specs.Prelude.{◌≡◌, ◌-◌, ◌*◌, ◌/◌, ◌<◌, ◌≤◌, ◌^◌, length, replicate, take, slice_get};
-ghost use Rattle.std.specs.Prelude.{slice_index_or, slice_set, Some, map, true, false, [], IfOk, IfSome, count_by};
+ghost use Rattle.std.specs.Prelude.{slice_index_or, slice_set, get_or, Some, map, true, false, [], IfOk, IfSome, count_by};
 ghost use Rattle.std.specs.Option.{option_copied};
 ghost use Rattle.model.specs.States.{change_at};
 ghost use Rattle.model.specs.declared.limits.TheConstants.{MOST_PAGES};
@@ -411,6 +411,16 @@ impl Rows {
     {
         if index < self.rows.len() {
             self.rows[index] = row;
+        }
+    }
+
+    /// Swaps the bitmap of an index, if it exists, with another one.
+    pub fn swap_row(&mut self, index: usize, other: &mut Row)
+        ensures rows { self.new ≡ slice_set self.old index other.old }
+        ensures other { other.new ≡ get_or self.old index other.old }
+    {
+        if index < self.rows.len() {
+            mem::swap(&mut self.rows[index], other);
         }
     }
 

@@ -53,4 +53,5 @@ pub record OwnsBy {F : Type 0} (g : Shared F (ℕ × (MutBor Part × Unit {0})) 
   pub left : List Part
   pub take : SwappedParts records frames parts between lent
   pub changed : ChangesEach g f lent left
+  pub long : length left ≡ length lent
   pub give : SwappedParts records between left after back

@@ -60,7 +60,7 @@ impl Store {
             → map length frames ≡ map length self.old.frames }
         requires still { (between : List (List ℕ)) (lent left : List Part)
             → SwappedParts self.old.pages self.old.frames parts.old between lent → ChangesEach F.Fn f.now lent left
-            → AreShort left }
+            → length left ≡ length lent → AreShort left }
         ensures owns { OwnsBy F.Fn f.now self.old.pages self.old.frames parts.old self.new.frames parts.new }
         ensures same { self.new ≡ record self.old { frames = self.new.frames } }
     {
