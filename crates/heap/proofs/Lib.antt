@@ -19,4 +19,8 @@ pub mod Sorted
 pub mod Going
 pub mod Entries
 pub mod Slots
+pub mod Flat
+pub mod Lent
+pub mod Shapes
+pub mod Sizing
 pub mod SwappedRows

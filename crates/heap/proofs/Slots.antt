@@ -65,7 +65,7 @@ put_put : {X : Type 0} (xs : List X) (o : Option ℕ) (v w : X) → put_in (put_
 put_put xs None v w = refl
 put_put xs (Some f) v w = set-set xs f v w
 
-get_other : {X : Type 0} (s : Slots) (xs : List X) (i j : ℕ) (v d : X) → AreOwn s → i ≢ j
+pub get_other : {X : Type 0} (s : Slots) (xs : List X) (i j : ℕ) (v d : X) → AreOwn s → i ≢ j
     → get_in (put_in xs (s i) v) (s j) d ≡ get_in xs (s j) d
 get_other {X} s xs i j v d own n = by_slots (s i) (s j) refl refl
   where
@@ -84,7 +84,7 @@ swaps_puts s xs [] ys (w ∷ ws) k = absurd (cc)
 swaps_puts s xs (v ∷ vs) ys [] k = absurd (cc)
 swaps_puts s xs (v ∷ vs) ys (w ∷ ws) k = swaps_puts s (put_in xs (s v.0) v.1) vs ys ws k.1
 
-rising_more : {X : Type 0} (m n : ℕ) (vs : List (ℕ × X)) → m ≤ n → AreRising n vs → AreRising m vs
+pub rising_more : {X : Type 0} (m n : ℕ) (vs : List (ℕ × X)) → m ≤ n → AreRising n vs → AreRising m vs
 rising_more m n [] l r = tt
 rising_more m n (v ∷ vs) l r = (omega (arith, l, r.0), r.1)
 

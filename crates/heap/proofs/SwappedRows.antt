@@ -83,7 +83,7 @@ part_rows_next mark todo parts i m g m2 g2 at d q so_far within swapped same mar
     (sym (ap (λ xs. xs ++ rest) front ∙ together (take i at) q rest))
     (so_far marked grey (q ∷ rest)
     (subst (λ xs. SwappedRowsOf m g xs marked grey (q ∷ rest)) (sym here)
-    (m2, (g2, (swapped, (same, subst (λ xs. SwappedRowsOf m2 g2 xs marked grey rest) back s))))))
+    (m2, g2, swapped, same, subst (λ xs. SwappedRowsOf m2 g2 xs marked grey rest) back s)))
 
 pub part_rows_last : (mark todo : List (List Bool)) (parts : List Part) (i : ℕ) (m g : List (List Bool))
     (at : List Part) → PartRowsRest mark todo parts i m g at → length at ≤ i
