@@ -53,7 +53,8 @@ greys_sized h i (p ∷ ps) fits = (
 alike : {X : Type 0} (xs ys : List (List X)) (f : ℕ) (y : List X) → map length ys ≡ map length xs
     → slice_get ys f ≡ Some y → (x : List X) × (slice_get xs f ≡ Some x) × (length y ≡ length x)
 alike xs ys f y e is =
-    let many : length ys ≡ length xs = sym (length-map ys (λ z. length z)) ∙ ap length e ∙ length-map xs (λ z. length z) in
+    let many : length ys ≡ length xs =
+    sym (length-map ys (λ z. length z)) ∙ ap length e ∙ length-map xs (λ z. length z) in
     let (x, there) = get_within xs f (omega (arith, slice_get_within ys f y is, many)) in
     (x, there, same_Some _ _ (sym (get_map (λ z. length z) ys f y is) ∙ ap (λ ns. slice_get ns f) e
     ∙ get_map (λ z. length z) xs f x there))

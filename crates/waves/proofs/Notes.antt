@@ -39,10 +39,11 @@ marks_two w a b r low high = by_eq (cases_eq b a)
         ∙ sym (ap (λ c. grey c a (grey (bit_at r.0 w b) b r.1)) there) in
         λ i. (bits_two r.0 w a b i, todo i)
 
-    by_eq : (b ≡ a) ⊎ (b ≢ a) → two w r (Some (a, false)) (Some (b, false)) ≡ two w r (Some (b, false)) (Some (a, false))
+    by_eq : (b ≡ a) ⊎ (b ≢ a)
+        → two w r (Some (a, false)) (Some (b, false)) ≡ two w r (Some (b, false)) (Some (a, false))
     by_eq (inr d) = apart d
-    by_eq (inl e) = subst (λ x. two w r (Some (a, false)) (Some (x, false)) ≡ two w r (Some (x, false)) (Some (a, false)))
-        (sym e) refl
+    by_eq (inl e) = subst
+        (λ x. two w r (Some (a, false)) (Some (x, false)) ≡ two w r (Some (x, false)) (Some (a, false))) (sym e) refl
 
 -- a mark, and the end of the scan of a marked object
 pub end_two : (w a b : ℕ) (r : List (List Bool) × List (List Bool)) → bit_at r.0 w a ≡ true → 0 < b / w

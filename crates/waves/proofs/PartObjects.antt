@@ -120,7 +120,8 @@ fields_move h first i a j x o (suc k) ps ns s heap fits sent on same at leads =
     let (p, there, word) = page_of_word ps i x lead.0.0 (ap (word_of ps i) (sym here) ∙ lead.0.1) in
     let one = word_moves h first i a j x ps ns p s heap fits sent there
     (on_alike w first i a (field_address a j) (page_is (near lead.0.0 p there word)) on)
-    (offset_is (near lead.0.0 p there word)) (ap (λ n. bits_lead_on (scene_of h) (word_of ps i n)) (sym here) ∙ lead.1) in
+    (offset_is (near lead.0.0 p there word))
+    (ap (λ n. bits_lead_on (scene_of h) (word_of ps i n)) (sym here) ∙ lead.1) in
     let rest = fields_move h first i a (j + 1) (x + 1) o k qs (ns ++ ms) s heap one.fits
     (sent_both w ns ms sent one.sent) on same (omega (arith, at)) leads_more in
     record {

@@ -58,8 +58,8 @@ place_on w first i o l =
 -- ---- all objects
 
 -- what was done: some objects of a drain, from one heap to another with these pages and notes
-pub record PartDone (f : HeapState) (w m : ℕ) (h : HeapState) (first : ℕ) (qs : List OwnedPage) (before after : List Reference)
-    : Type 0 where
+pub record PartDone (f : HeapState) (w m : ℕ) (h : HeapState) (first : ℕ) (qs : List OwnedPage)
+    (before after : List Reference) : Type 0 where
   pub done : ObjectsDone f w m (sent_to (placed h first qs) (before ++ after))
   pub fits : FitsPages h first qs
   pub sent : AreSent h.store.words after
@@ -70,7 +70,8 @@ pub objects_done : (f h : HeapState) (w m first : ℕ) (xs : List (ℕ × ℕ ×
     → AreSent h.store.words before → AreSent h.store.words own → Scans (scene_of h) first xs ps own qs after
     → PartDone f w (m + length xs) h first qs before after
 objects_done f h w m first [] ps qs before own after d s heap none fits sent k e =
-    subst₂ (λ (ys : List OwnedPage) (ns : List Reference). PartDone f w (m + 0) h first ys before ns) (sym e.0) (sym e.1)
+    subst₂ (λ (ys : List OwnedPage) (ns : List Reference). PartDone f w (m + 0) h first ys before ns)
+    (sym e.0) (sym e.1)
     (record {
       done = subst (λ n. ObjectsDone f w n (sent_to (placed h first ps) (before ++ own))) (omega arith) d;
       fits = fits;

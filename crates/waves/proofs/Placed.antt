@@ -157,7 +157,8 @@ bit_read : (rows : List (List Bool)) (w i k a : ℕ) (rs : List (List Bool)) (r 
     → slice_get rs k ≡ Some r → IsOn w i k a → bit_at (put_all row_of rows i rs) w a ≡ get_or r (a % w) false
 bit_read rows w i k a rs r l e on =
     ap (λ x. get_or x (a % w) false) (row_on (put_all row_of rows i rs) (a / w) on.low
-    ∙ get_or_from_slice_get (put_all row_of rows i rs) (a / w - 1) r [] (row_read rows i k (a / w - 1) rs r l e on.page))
+    ∙ get_or_from_slice_get (put_all row_of rows i rs) (a / w - 1) r []
+    (row_read rows i k (a / w - 1) rs r l e on.page))
 
 -- a bit that is put
 bit_put : (rows : List (List Bool)) (w i k a : ℕ) (rs : List (List Bool)) (r : List Bool) (b : Bool)

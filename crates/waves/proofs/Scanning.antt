@@ -1,7 +1,7 @@
 -- An object of a part's pages is scanned in the heap with these pages.
 use Rattle.std.proofs.Common.{◌≡◌, ◌≢◌, ◌⊎◌, inl, inr, ℕ, zero, suc, ◌-◌, ◌/◌, ◌%◌, ◌<◌, true, false, Bool}
-use Rattle.std.proofs.Common.{List, [], ◌∷◌, ◌++◌, get_or, set, length, nat_lt, Option, Some, None, refl, sym, ◌∙◌, ap, arith}
-use Rattle.std.proofs.Common.{subst}
+use Rattle.std.proofs.Common.{List, [], ◌∷◌, ◌++◌, get_or, set, length, nat_lt, Option, Some, None, refl, sym, ◌∙◌, ap}
+use Rattle.std.proofs.Common.{arith, subst}
 use Rattle.std.specs.List.{slice_get}
 use Rattle.std.specs.Option.{option_and_then}
 use Rattle.std.specs.Prelude.{if◌then◌else◌}
@@ -57,7 +57,8 @@ ended_alike o p = record { frame = refl; marked = refl; grey = length-set p.grey
 
 -- a word that a change of a page leaves
 word_kept : (ps : List OwnedPage) (k i x : ℕ) (f : OwnedPage → OwnedPage)
-    → ((p : OwnedPage) → slice_get (f p).frame x ≡ slice_get p.frame x) → word_of (change_at ps k f) i x ≡ word_of ps i x
+    → ((p : OwnedPage) → slice_get (f p).frame x ≡ slice_get p.frame x)
+    → word_of (change_at ps k f) i x ≡ word_of ps i x
 word_kept ps k i x f same = by_page (slice_get ps k) refl
   where
     read : Option OwnedPage → Option ℕ
@@ -88,7 +89,8 @@ target_keeps s first ps None i x = refl
 target_keeps s first ps (Some t) i x = by_own (is_own s first (length ps) t.0)
   where
     by_own : (c : Bool)
-        → word_of (if c then change_at ps (own_index s first t.0) (mark_on (t.0 % s.words)) else ps) i x ≡ word_of ps i x
+        → word_of (if c then change_at ps (own_index s first t.0) (mark_on (t.0 % s.words)) else ps) i x
+        ≡ word_of ps i x
     by_own true = word_kept ps (own_index s first t.0) i x (mark_on (t.0 % s.words))
         (mark_keeps_word x (t.0 % s.words))
     by_own false = refl
@@ -217,7 +219,8 @@ bits_move : (h : HeapState) (first i a j : ℕ) (ps : List OwnedPage) (ns : List
     → IsOn h.store.words first i (field_address a j) → word_of ps i (field_address a j % h.store.words) ≡ q
     → bits_lead_on (scene_of h) q ≡ true
     → Moves h first ps ns (marked_field (sent_to (placed h first ps) ns) (field_address a j))
-    (mark_bits (scene_of h) first ps i (field_address a j % h.store.words) q) (send_bits (scene_of h) first (length ps) q)
+    (mark_bits (scene_of h) first ps i (field_address a j % h.store.words) q)
+    (send_bits (scene_of h) first (length ps) q)
 bits_move h first i a j ps ns p None s heap fits k e on is leads =
     let g : HeapState = sent_to (placed h first ps) ns in
     nothing_moves h first ps ns _ fits (field_is g a j None
