@@ -67,7 +67,7 @@ rows_other rows i n o k v d = by_row (slice_get rows i) refl
 same_page : (m n : ℕ) → 0 < m → suc n ≡ n + 1 → n ≡ m - 1 → suc n ≡ m
 same_page m n a s e = omega (arith, a, s, e)
 
-bit_other : (rows : List (List Bool)) (w a b : ℕ) (v : Bool) → 0 < a / w → 0 < b / w → b ≢ a
+pub bit_other : (rows : List (List Bool)) (w a b : ℕ) (v : Bool) → 0 < a / w → 0 < b / w → b ≢ a
     → bit_at (with_bit rows w a v) w b ≡ bit_at rows w b
 bit_other rows w a b v low high apart = by_page (b / w) refl high
   where

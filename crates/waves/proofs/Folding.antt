@@ -62,7 +62,7 @@ unfolding with_marked_place with_mark applied marked_word
 marked_is h place None = refl
 marked_is h place (Some w) = refl
 
-field_is : (h : HeapState) (a i : ℕ) (o : Option ℕ) → word_at h.store (field_address a i) ≡ o
+pub field_is : (h : HeapState) (a i : ℕ) (o : Option ℕ) → word_at h.store (field_address a i) ≡ o
     → marked_field h (field_address a i) ≡ applied h (words_for h (field_address a i) o) (notes_for h o)
 unfolding marked_field
 field_is h a i None e =
@@ -96,7 +96,7 @@ ended_is : (h : HeapState) (a : ℕ) → without_todo h a ≡ applied h [] (Some
 unfolding without_todo applied
 ended_is h a = refl
 
-append_none : {X : Type 0} (xs : List X) → xs ++ [] ≡ xs
+pub append_none : {X : Type 0} (xs : List X) → xs ++ [] ≡ xs
 append_none [] = refl
 append_none (x ∷ xs) = ap (λ ys. x ∷ ys) (append_none xs)
 

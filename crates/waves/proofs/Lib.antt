@@ -8,3 +8,11 @@ pub mod Waved
 pub mod Passes
 pub mod Sorted
 pub mod Done
+pub mod Notes
+pub mod Placing
+pub mod Placed
+pub mod Fitting
+pub mod Scanning
+pub mod PartObjects
+pub mod PartScans
+pub mod Composing

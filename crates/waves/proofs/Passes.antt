@@ -42,7 +42,7 @@ edit_zero xs i f =
 
 -- ---- bits
 
-on_page : (rows : List (List Bool)) (w a : ℕ) → bit_at rows w a ≡ true → 0 < a / w
+pub on_page : (rows : List (List Bool)) (w a : ℕ) → bit_at rows w a ≡ true → 0 < a / w
 on_page rows w a e = by_page (a / w) e
   where
     by_page : (n : ℕ) → get_or (of_page rows n) (a % w) false ≡ true → 0 < n

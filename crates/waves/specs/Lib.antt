@@ -1,3 +1,4 @@
 pub mod Waves
 pub mod Finds
 pub mod Promises
+pub mod Parts
