@@ -82,7 +82,7 @@ words_next records i first now v own k j d l =
     ∙ get_other (frame_slot records) now i j v d own (λ e. absurd (omega (arith, e, l)))
     ∙ sym (lent_is records j now d) ∙ k j d (omega (arith, l))
 
-words_later : (records : List Page) (m n : ℕ) (first now : List (List ℕ)) → m ≤ n → AreAsWords records m first now
+pub words_later : (records : List Page) (m n : ℕ) (first now : List (List ℕ)) → m ≤ n → AreAsWords records m first now
     → AreAsWords records n first now
 words_later records m n first now l k j d le = k j d (omega (arith, l, le))
 
@@ -135,14 +135,14 @@ pages_lent h i (p ∷ ps) (q ∷ qs) (r ∷ rs) b k l = (
   pages_lent h (i + 1) ps qs rs b.1 k.1 l.1,
 )
 
-long_lent : (mark todo : List (List Bool)) (i : ℕ) (ps qs : List OwnedPage) → RowsLent mark todo i ps qs
+pub long_lent : (mark todo : List (List Bool)) (i : ℕ) (ps qs : List OwnedPage) → RowsLent mark todo i ps qs
     → length qs ≡ length ps
 long_lent mark todo i [] [] k = refl
 long_lent mark todo i [] (q ∷ qs) k = absurd (cc)
 long_lent mark todo i (p ∷ ps) [] k = absurd (cc)
 long_lent mark todo i (p ∷ ps) (q ∷ qs) k = ap suc (long_lent mark todo (i + 1) ps qs k.1)
 
-long_words : (records : List Page) (fs : List (List ℕ)) (i : ℕ) (ps qs : List OwnedPage)
+pub long_words : (records : List Page) (fs : List (List ℕ)) (i : ℕ) (ps qs : List OwnedPage)
     → WordsLent records fs i ps qs → length qs ≡ length ps
 long_words records fs i [] [] k = refl
 long_words records fs i [] (q ∷ qs) k = absurd (cc)

@@ -23,4 +23,5 @@ pub mod Flat
 pub mod Lent
 pub mod Shapes
 pub mod Sizing
+pub mod Scanning
 pub mod SwappedRows

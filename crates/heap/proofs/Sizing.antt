@@ -58,7 +58,7 @@ puts_sized s xs (v ∷ vs) k =
     let one = put_sized xs (s v.0) v.1 k.0 in
     puts_sized s (put_in xs (s v.0) v.1) vs (long_still s xs (put_in xs (s v.0) v.1) vs (sym one) k.1) ∙ one
 
-long_both : {X : Type 0} (s : Slots) (xs : List (List X)) (vs ws : List (ℕ × List X)) → AreLong s xs vs
+pub long_both : {X : Type 0} (s : Slots) (xs : List (List X)) (vs ws : List (ℕ × List X)) → AreLong s xs vs
     → AreLong s xs ws → AreLong s xs (vs ++ ws)
 long_both s xs [] ws k l = l
 long_both s xs (v ∷ vs) ws k l = (k.0, long_both s xs vs ws k.1 l)

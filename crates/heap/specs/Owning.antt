@@ -1,7 +1,8 @@
 -- Pages whose words and bitmaps threads own for a time.
 use Rattle.std.specs.Prelude.{◌≡◌, ℕ, ◌+◌, ◌≤◌, Bool, true, false, List, [], ◌∷◌, get_or, length, slice_set}
 use Rattle.model.specs.States.{HeapState}
-use Rattle.page.specs.Owned.{lent_frame, put_frame}
+use Rattle.model.specs.Stores.{StoreState}
+use Rattle.page.specs.Owned.{SwappedParts, lent_frame, put_frame}
 use Rattle.page.specs.declared.owned.OwnedPage.{OwnedPage}
 use Rattle.page.specs.declared.owned.Part.{Part}
 use Rattle.part_scans.specs.Scans.{PartScanned}
@@ -67,6 +68,15 @@ abbrev pub AreBlank : List Part → Type 0
 AreBlank [] = Unit {0}
 AreBlank (p ∷ ps) = AreBlankPages p.pages.items × AreBlank ps
 
+-- pages without words
+abbrev pub AreWordlessPages : List OwnedPage → Type 0
+AreWordlessPages [] = Unit {0}
+AreWordlessPages (p ∷ ps) = (p.frame ≡ []) × AreWordlessPages ps
+
+abbrev pub AreWordless : List Part → Type 0
+AreWordless [] = Unit {0}
+AreWordless (p ∷ ps) = AreWordlessPages p.pages.items × AreWordless ps
+
 -- the pages of each part have records after those of the parts before, from an index on, of n records in all
 abbrev pub ArePlaced : ℕ → ℕ → List Part → Type 0
 ArePlaced n low [] = low ≤ n
@@ -94,6 +104,17 @@ AreBack [] [] = Unit {0}
 AreBack [] (q ∷ qs) = true ≡ false
 AreBack (p ∷ ps) [] = true ≡ false
 AreBack (p ∷ ps) (q ∷ qs) = (q ≡ record p { pages = q.pages }) × AreBack ps qs
+
+-- objects of parts were scanned, which had the words of their pages meanwhile
+pub record ScansStore (s : SceneState) (most : ℕ) (t : StoreState) (parts : List Part) (u : StoreState)
+    (after : List Part) : Type 0 where
+  pub between : List (List ℕ)
+  pub lent : List Part
+  pub left : List Part
+  pub take : SwappedParts t.pages t.frames parts between lent
+  pub scanned : AllScanned s most lent left
+  pub give : SwappedParts t.pages between left u.frames after
+  pub same : u ≡ record t { frames = u.frames }
 
 -- objects of parts were scanned, of each at most so many, and the heap has the words and the bitmaps that are left
 pub record ScansParts (h : HeapState) (most : ℕ) (parts : List Part) (g : HeapState) (after : List Part) : Type 0 where

@@ -1,12 +1,18 @@
 //! Pages whose words and bitmaps threads own for a time, to scan their objects.
 
-ghost use Rattle.std.specs.Prelude.{◌≡◌, ◌≤◌, ◌<◌, ◌+◌, ◌^◌, slice_set, get_or, length};
-ghost use Rattle.heap.specs.Owning.{SwappedRows, SwappedRowsOf};
+ghost use Rattle.std.specs.Prelude.{◌≡◌, ◌≤◌, ◌<◌, ◌+◌, ◌^◌, slice_set, get_or, length, true};
+ghost use Rattle.model.specs.Configs.{is_page_size};
+ghost use Rattle.part_scans.specs.Scans.{PartScanned};
+ghost use Rattle.heap.specs.Owning.{SwappedRows, SwappedRowsOf, AreWordless, ArePlaced, ScansStore};
 ghost use Rattle.page.specs.Owned.{AreShort};
 
 use crate::heap::Heap;
+use forward::Sides;
+use layout::Layouts;
 use markbits::{IndexedRows, Rows};
-use page::{OwnedPage, Part};
+use page::{OwnedPage, PageSize, Part, Store};
+use part_scans::{Scene, scan_part};
+use std::thread::Threads;
 
 /// Swaps the bitmaps of the page of an index with those of an owned page.
 fn swap_rows_of(mark: &mut Rows, todo: &mut IndexedRows, index: usize, page: &mut OwnedPage)
@@ -50,4 +56,30 @@ fn swap_all_rows(mark: &mut Rows, todo: &mut IndexedRows, parts: &mut [Part])
         let part = &mut parts[index];
         swap_part_rows(mark, todo, part);
     }
+}
+
+/// Has threads scan parts, which get the words of their pages from a store, and give them back.
+fn scan_parts_by<R: Threads + Sync>(
+    rt: &R,
+    store: &mut Store,
+    nmt: bool,
+    sides: &Sides,
+    layouts: &Layouts,
+    parts: &mut [Part],
+    most: u64,
+)
+    requires size { is_page_size store.old.words ≡ true }
+    requires wordless { AreWordless parts.old }
+    requires placed { ArePlaced (length store.old.pages) 0 parts.old }
+    ensures { ScansStore (record { words = store.old.words; nmt = nmt; sides = sides.now; layouts = layouts.now }) most
+        store.old parts.old store.new parts.new }
+{
+    store.law();
+    let words = PageSize::of(store.page_words());
+    let scene = Scene::new(words, nmt, sides, layouts);
+    let scan = |_index: usize, part: &mut Part|
+        ensures scanned { PartScanned scene.entry part.entry.now part.exit.now }
+        ensures few { part.exit.now.scanned ≤ most }
+    { scan_part(&scene, part, most) };
+    store.own_by(rt, parts, &scan);
 }
