@@ -24,4 +24,5 @@ pub mod Lent
 pub mod Shapes
 pub mod Sizing
 pub mod Scanning
+pub mod Parted
 pub mod SwappedRows

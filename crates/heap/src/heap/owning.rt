@@ -3,7 +3,7 @@
 ghost use Rattle.std.specs.Prelude.{◌≡◌, ◌≤◌, ◌<◌, ◌+◌, ◌^◌, slice_set, get_or, length, true};
 ghost use Rattle.model.specs.Configs.{is_page_size};
 ghost use Rattle.part_scans.specs.Scans.{PartScanned};
-ghost use Rattle.heap.specs.Owning.{SwappedRows, SwappedRowsOf, AreWordless, ArePlaced, ScansStore};
+ghost use Rattle.heap.specs.Owning.{SwappedRows, SwappedRowsOf, AreBlank, AreWordless, ArePlaced, ScansStore, ScansParts};
 ghost use Rattle.page.specs.Owned.{AreShort};
 
 use crate::heap::Heap;
@@ -82,4 +82,29 @@ fn scan_parts_by<R: Threads + Sync>(
         ensures few { part.exit.now.scanned ≤ most }
     { scan_part(&scene, part, most) };
     store.own_by(rt, parts, &scan);
+}
+
+impl Heap {
+    /// A raw edit: has threads scan the objects of parts, each thread those of one part and at most `most`. Meanwhile
+    /// it owns the words and the bitmaps of the part's pages; what it finds of other pages it leaves in its part. The
+    /// parts have blank pages, whose records exist and rise. It takes no memory: if a thread can't be started, this one
+    /// does the work.
+    pub fn raw_scan_by<R: Threads + Sync>(&mut self, rt: &R, parts: &mut [Part], most: u64)
+        requires blank { AreBlank parts.old }
+        requires placed { ArePlaced (length self.old.store.pages) 0 parts.old }
+        ensures { ScansParts self.old most parts.old self.new parts.new }
+    {
+        self.store.law();
+        swap_all_rows(&mut self.mark, &mut self.todo, parts);
+        scan_parts_by(
+            rt,
+            &mut self.store,
+            self.nmt,
+            &self.sides,
+            &self.config.layouts,
+            parts,
+            most,
+        );
+        swap_all_rows(&mut self.mark, &mut self.todo, parts);
+    }
 }
