@@ -12,7 +12,8 @@ use Rattle.model.specs.States.{HeapState}
 use Rattle.page.specs.Owned.{words_or}
 use Rattle.page.specs.declared.owned.OwnedPage.{OwnedPage}
 use Rattle.part_scans.specs.Scenes.{scene_of}
-use Rattle.waves.specs.Parts.{put_page, put_pages, page_of, ArePagesOf, FitsPages}
+use Rattle.heap.specs.Owning.{put_page, put_pages, page_of, ArePagesOf}
+use Rattle.waves.specs.Parts.{FitsPages}
 use Rattle.waves.proofs.Placing.{AreThere, put_same, put_other, put_lengths}
 use Rattle.waves.proofs.Placed.{frames_of, marks_of, greys_of, frame_of, row_of, placed, pages_placed}
 use Rattle.waves.proofs.Placed.{frames_distinct, rows_distinct}

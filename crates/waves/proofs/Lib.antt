@@ -1,13 +1,4 @@
-pub mod Reading
 pub mod Folding
-pub mod Adding
-pub mod Pages
-pub mod Written
-pub mod Parts
-pub mod Waved
-pub mod Passes
-pub mod Sorted
-pub mod Done
 pub mod Notes
 pub mod Placing
 pub mod Placed
@@ -16,3 +7,8 @@ pub mod Scanning
 pub mod PartObjects
 pub mod PartScans
 pub mod Composing
+pub mod PartsDone
+pub mod Sent
+pub mod Building
+pub mod Rows
+pub mod Drained

@@ -8,8 +8,8 @@ use Rattle.model.specs.States.{Reference, HeapState}
 use Rattle.heap.specs.Batches.{noted_in, all_noted_in, applied}
 use Rattle.drains.proofs.Bits.{bits_two, bits_apart}
 use Rattle.waves.specs.Parts.{AreSent, sent_to}
-use Rattle.waves.proofs.Done.{bit_set, bit_other}
-use Rattle.waves.proofs.Passes.{on_page}
+use Rattle.waves.proofs.Rows.{bit_set, bit_other}
+use Rattle.waves.proofs.Rows.{on_page}
 
 -- ---- two notes
 

@@ -16,7 +16,8 @@ use Rattle.drains.proofs.Ended.{objects_next}
 use Rattle.page.specs.declared.owned.OwnedPage.{OwnedPage}
 use Rattle.part_scans.specs.Scenes.{scene_of}
 use Rattle.part_scans.specs.Scans.{scan_own, send_words, Scans}
-use Rattle.waves.specs.Parts.{put_pages, sent_to, FitsPages, AreSent}
+use Rattle.heap.specs.Owning.{put_pages}
+use Rattle.waves.specs.Parts.{sent_to, FitsPages, AreSent}
 use Rattle.waves.proofs.Folding.{append_none}
 use Rattle.waves.proofs.Notes.{grey_stays, sent_both}
 use Rattle.waves.proofs.Placed.{placed, IsOn, frames_distinct, grey_read, pages_placed}

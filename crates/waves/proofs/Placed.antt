@@ -21,7 +21,8 @@ use Rattle.page.specs.declared.owned.OwnedPage.{OwnedPage}
 use Rattle.page.proofs.Copied.{same_set}
 use Rattle.page.proofs.Keeping.{page_at_record}
 use Rattle.part_scans.specs.Scans.{mark_on, end_on, write_on, word_of}
-use Rattle.waves.specs.Parts.{put_page, put_pages, sent_to, FitsPage, FitsPages}
+use Rattle.heap.specs.Owning.{put_page, put_pages}
+use Rattle.waves.specs.Parts.{sent_to, FitsPage, FitsPages}
 use Rattle.waves.proofs.Placing.{set_in, put_all, AreDistinct, set_all, put_first, put_read}
 
 -- ---- the heap in one edit

@@ -27,7 +27,7 @@ use Rattle.part_scans.specs.Scans.{mark_target, send_target, mark_bits, send_bit
 use Rattle.part_scans.specs.Scans.{leads_on, bits_lead_on}
 use Rattle.waves.specs.Waves.{note_of}
 use Rattle.waves.specs.Parts.{sent_to, FitsPages, AreSent}
-use Rattle.waves.proofs.Done.{bit_set}
+use Rattle.waves.proofs.Rows.{bit_set}
 use Rattle.waves.proofs.Folding.{field_is, applied_both, nothing_applied, append_none}
 use Rattle.waves.proofs.Notes.{mark_first}
 use Rattle.waves.proofs.Placed.{placed, IsOn, mark_placed, word_read, word_placed}

@@ -1,4 +1,2 @@
 pub mod Waves
-pub mod Finds
-pub mod Promises
 pub mod Parts

@@ -1,23 +1,10 @@
 -- The heap with the pages of a part, and what parts have sent.
-use Rattle.std.specs.Prelude.{◌≡◌, ℕ, ◌+◌, ◌/◌, ◌<◌, true, false, List, [], ◌∷◌, Some, None}
-use Rattle.std.specs.Prelude.{length, get_or, slice_set}
+use Rattle.std.specs.Prelude.{◌≡◌, ℕ, ◌+◌, ◌/◌, ◌<◌, ◌≤◌, true, false, List, [], ◌∷◌, ◌++◌, Some, None, length}
 use Rattle.heap.specs.Batches.{applied}
+use Rattle.heap.specs.Owning.{AreBlank, ArePlaced, page_of}
 use Rattle.model.specs.States.{Reference, HeapState}
-use Rattle.page.specs.Owned.{lent_frame, put_frame}
 use Rattle.page.specs.declared.owned.OwnedPage.{OwnedPage}
-
--- the heap in which the page of a record's index has the words and the bitmaps of an owned page
-abbrev pub put_page : HeapState → ℕ → OwnedPage → HeapState
-put_page h i p = record h {
-  store = record h.store { frames = put_frame h.store.pages i h.store.frames p.frame };
-  mark = slice_set h.mark i p.marked;
-  todo = slice_set h.todo i p.grey;
-}
-
--- the same of several pages, from that of a record's index on
-abbrev pub put_pages : HeapState → ℕ → List OwnedPage → HeapState
-put_pages h i [] = h
-put_pages h i (p ∷ ps) = put_pages (put_page h i p) (i + 1) ps
+use Rattle.page.specs.declared.owned.Part.{Part}
 
 -- the heap after all that was sent was taken in
 abbrev pub sent_to : HeapState → List Reference → HeapState
@@ -30,19 +17,6 @@ AreSent w (None ∷ ns) = true ≡ false
 AreSent w (Some (t, true) ∷ ns) = true ≡ false
 AreSent w (Some (t, false) ∷ ns) = (0 < t / w) × AreSent w ns
 
--- the page of a record's index, as a heap has it
-abbrev pub page_of : HeapState → ℕ → OwnedPage
-page_of h i = record {
-  frame = lent_frame h.store.pages i h.store.frames [];
-  marked = get_or h.mark i [];
-  grey = get_or h.todo i [];
-}
-
--- these pages, from that of a record's index on, are as a heap has them
-abbrev pub ArePagesOf : HeapState → ℕ → List OwnedPage → Type 0
-ArePagesOf h i [] = Unit {0}
-ArePagesOf h i (p ∷ ps) = (p ≡ page_of h i) × ArePagesOf h (i + 1) ps
-
 -- a page has as many words and bits as that of a record's index has in a heap
 pub record FitsPage (h : HeapState) (i : ℕ) (p : OwnedPage) : Type 0 where
   pub there : i < length h.store.pages
@@ -54,3 +28,29 @@ pub record FitsPage (h : HeapState) (i : ℕ) (p : OwnedPage) : Type 0 where
 abbrev pub FitsPages : HeapState → ℕ → List OwnedPage → Type 0
 FitsPages h i [] = Unit {0}
 FitsPages h i (p ∷ ps) = FitsPage h i p × FitsPages h (i + 1) ps
+
+-- what parts have sent, one part after another
+abbrev pub all_sent : List Part → List Reference
+all_sent [] = []
+all_sent (p ∷ ps) = p.sent.items ++ all_sent ps
+
+-- how many objects were scanned in parts
+abbrev pub all_scanned_in : List Part → ℕ
+all_scanned_in [] = 0
+all_scanned_in (p ∷ ps) = p.scanned + all_scanned_in ps
+
+-- parts have sent nothing
+abbrev pub AreUnsent : List Part → Type 0
+AreUnsent [] = Unit {0}
+AreUnsent (p ∷ ps) = (p.sent.items ≡ []) × AreUnsent ps
+
+-- of each part at most so many objects were scanned
+abbrev pub AreFew : ℕ → List Part → Type 0
+AreFew most [] = Unit {0}
+AreFew most (p ∷ ps) = (p.scanned ≤ most) × AreFew most ps
+
+-- parts of blank pages that have sent nothing, and take the place of some of the first n pages
+pub record AreNew (n : ℕ) (ps : List Part) : Type 0 where
+  pub blank : AreBlank ps
+  pub placed : ArePlaced n 0 ps
+  pub unsent : AreUnsent ps

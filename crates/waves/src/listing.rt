@@ -97,3 +97,21 @@ pub(crate) fn list_grey(
     }
     Ok(())
 }
+
+/// Returns whether no more than half of the grey objects are on the pages of one part, of which there are as many as
+/// threads: else a wave would keep one thread busy alone.
+pub(crate) fn are_spread(heap: &Heap, extent: Extent, threads: u32) -> bool {
+    let size = extent.used.div_ceil(threads.max(1) as usize).max(1);
+    let mut most = 0u64;
+    let mut here = 0u64;
+    for index in 0..extent.used {
+        if index % size == 0 {
+            most = most.max(here);
+            here = 0;
+        }
+        if let Some(row) = heap.todo().get(index) {
+            here = here.saturating_add(row.count() as u64);
+        }
+    }
+    most.max(here) <= extent.objects / 2
+}

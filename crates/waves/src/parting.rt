@@ -1,92 +1,84 @@
-//! The parts of a wave, which are found on threads.
+//! The parts of the pages, each for one thread.
 
-ghost use Rattle.std.specs.Prelude.{◌≡◌, ◌≤◌, ◌<◌, ◌+◌, ◌*◌, ◌^◌, false, IfOk, IfSome, length, is_some};
-ghost use Rattle.std.specs.List.{list_any};
-ghost use Rattle.heap.specs.Batches.{AllSorted, IsSorted, batch_objects};
-ghost use Rattle.waves.specs.Finds.{Finds, PartsFound, start_of};
+ghost use Rattle.std.specs.Prelude.{◌≡◌, ◌≤◌, ◌<◌, ◌*◌, ◌^◌, [], IfOk, length};
+ghost use Rattle.heap.specs.Owning.{AreBlankPages};
+ghost use Rattle.waves.specs.Parts.{AreFew, AreNew, all_scanned_in};
 
-use crate::finding::find_in;
-use heap::{Batch, Groups, Heap, sort_notes};
-use std::alloc::AllocError;
-use std::mem;
-use std::thread::{Threads, for_each_mut};
+use page::{OwnedPage, Part};
+use std::alloc::{AllocError, Global};
 
-/// Finds grey objects of the pages with records from one index on and before another, and sorts the notes. Fails only
-/// if out of memory.
-fn find_sorted(
-    heap: &Heap,
-    first: usize,
-    end: usize,
-    groups: Groups,
-    found: &mut Batch,
-) -> Result<(), AllocError>
-    requires order { first ≤ end }
-    requires alone { list_any is_some heap.now.workers ≡ false }
-    requires small { groups.shift < 32 }
-    ensures found { IfOk result (λ _. Finds heap.now (start_of heap.now first) (start_of heap.now end) found.new) }
-    ensures sorted { IfOk result (λ _. IsSorted heap.now.store.words (2 ^ groups.shift) groups.count found.new) }
+/// How many notes a part has space for: an object with more references than are left stays grey until the next wave.
+const NOTES: usize = 1 << 17;
+
+/// Returns blank pages. Fails only if out of memory.
+fn blank_pages(alloc: Global, count: usize) -> Result<Vec<OwnedPage, Global>, AllocError>
+    ensures blank { IfOk result (λ v. AreBlankPages v.items) }
+    ensures count { IfOk result (λ v. length v.items ≡ count) }
 {
-    found.clear();
-    find_in(heap, first, end, found)?;
-    sort_notes(heap.allocator(), heap.memory(), found, groups)
-}
-
-/// Does the same, but if out of memory, it finds nothing. Meanwhile the batch is out of the list of batches: else
-/// threads would write to the same cache lines.
-fn find_part(heap: &Heap, first: usize, end: usize, groups: Groups, found: &mut Batch)
-    requires order { first ≤ end }
-    requires alone { list_any is_some heap.now.workers ≡ false }
-    requires small { groups.shift < 32 }
-    ensures found { Finds heap.now (start_of heap.now first) (start_of heap.now end) found.new }
-    ensures sorted { IsSorted heap.now.store.words (2 ^ groups.shift) groups.count found.new }
-{
-    let alloc = heap.allocator();
-    let mut own = mem::replace(found, Batch::new(alloc));
-    if find_sorted(heap, first, end, groups, &mut own).is_ok() {
-        *found = own;
+    let mut pages = Vec::with_capacity(alloc, count)?;
+    for _page in 0..count {
+        pages.push(OwnedPage::empty(alloc))?;
     }
+    Ok(pages)
 }
 
-/// Finds grey objects of `size` pages for each of some batches, from the page of an index on, each on a thread of its
-/// own. A part for which memory runs out finds none.
-pub(crate) fn find_parts<R: Threads + Sync>(
-    rt: &R,
-    heap: &Heap,
-    first: usize,
-    size: usize,
-    groups: Groups,
-    parts: &mut [Batch],
-)
-    requires alone { list_any is_some heap.now.workers ≡ false }
-    requires few { first + length parts.old * size < 2 ^ 64 }
-    requires small { groups.shift < 32 }
-    ensures found { PartsFound heap.now (start_of heap.now first) parts.new }
-    ensures sorted { AllSorted heap.now.store.words (2 ^ groups.shift) groups.count parts.new }
+/// Returns a part of blank pages, from that of a record's index on. Fails only if out of memory.
+fn blank_part(alloc: Global, first: usize, count: usize) -> Result<Part, AllocError>
+    ensures first { IfOk result (λ p. p.first ≡ first) }
+    ensures blank { IfOk result (λ p. AreBlankPages p.pages.items) }
+    ensures count { IfOk result (λ p. length p.pages.items ≡ count) }
+    ensures sent { IfOk result (λ p. p.sent.items ≡ []) }
 {
-    let find = |index: usize, part: &mut Batch|
-        requires alone { list_any is_some heap.now.workers ≡ false }
-        requires few { first + (index * size + size) < 2 ^ 64 }
-        requires small { groups.shift < 32 }
-        ensures found { Finds heap.entry.now (start_of heap.entry.now (first + index * size))
-            (start_of heap.entry.now (first + (index * size + size))) part.exit.now }
-        ensures sorted { IsSorted heap.entry.now.store.words (2 ^ groups.shift) groups.count part.exit.now }
-    {
-        let start = index * size;
-        find_part(heap, first + start, first + (start + size), groups, part)
-    };
-    let threads = parts.len().max(1);
-    for_each_mut(rt, parts, threads, &find);
+    Ok(Part {
+        first,
+        pages: blank_pages(alloc, count)?,
+        sent: Vec::with_capacity(alloc, NOTES)?,
+        scanned: 0,
+    })
 }
 
-/// Returns how many objects the parts have found, if at most `most`.
-pub(crate) fn count_parts(parts: &[Batch], most: u64) -> Option<u64>
-    ensures count { IfSome result (λ n. n ≡ length (batch_objects parts.now)) }
-    ensures few { IfSome result (λ n. n ≤ most) }
+/// Returns `count` parts of blank pages, which take the place of the first `used` ones. Fails only if out of memory.
+pub(crate) fn new_parts(
+    alloc: Global,
+    count: u32,
+    used: usize,
+) -> Result<Vec<Part, Global>, AllocError>
+    ensures { IfOk result (λ v. AreNew used v.items) }
 {
-    let mut left = most;
+    let size = used.div_ceil(count.max(1) as usize);
+    let mut parts = Vec::with_capacity(alloc, count as usize)?;
+    let mut first = 0;
+    for _part in 0..count {
+        let pages = size.min(used - first);
+        parts.push(blank_part(alloc, first, pages)?)?;
+        first += pages;
+    }
+    Ok(parts)
+}
+
+/// Returns how many objects were scanned in parts, at most `each` in one.
+pub(crate) fn total(parts: &[Part], each: u64) -> u64
+    requires few { AreFew each parts.now }
+    requires fits { length parts.now * each < 2 ^ 64 }
+    ensures value { result ≡ all_scanned_in parts.now }
+    ensures range { result ≤ length parts.now * each }
+{
+    let mut done = 0u64;
     for index in 0..parts.len() {
         let part = &parts[index];
-        left = left.checked_sub(part.objects.len() as u64)?;
+        done += part.scanned;
     }
-    Some(most - left)
+    done
+}
+
+/// Returns whether no part has scanned more than half of all objects.
+pub(crate) fn are_balanced(parts: &[Part]) -> bool {
+    let mut all = 0u64;
+    let mut most = 0u64;
+    for index in 0..parts.len() {
+        let part = &parts[index];
+        all = all.saturating_add(part.scanned);
+        most = most.max(part.scanned);
+    }
+    most <= all / 2
 }

@@ -1,21 +1,23 @@
 //! Waves, and drains that use them.
 
-ghost use Rattle.std.specs.Prelude.{◌≡◌, ◌≤◌, ◌<◌, ◌+◌, ◌*◌, ◌^◌, true, false, None, length};
+ghost use Rattle.std.specs.Prelude.{◌≡◌, ◌≤◌, ◌<◌, true, false, None, is_some, length};
+ghost use Rattle.std.specs.List.{list_any};
+ghost use Rattle.waves.specs.Parts.{AreNew};
 ghost use Rattle.model.specs.Scans.{next_todo, next_drain};
 ghost use Rattle.drains.specs.Drains.{IsReady, IsDrained, ObjectsDone, NoneTodo, KeepsPlain};
 
-use crate::applying::apply_parts;
-use crate::listing::{Extent, extent_of, list_grey};
-use crate::ordering::{are_orderly, are_scattered};
-use crate::parting::{count_parts, find_parts};
+use crate::listing::{Extent, are_spread, extent_of, list_grey};
+use crate::parting::{are_balanced, new_parts, total};
+use crate::taking::take_sent;
 use drains::{Portion, is_alone, mark_globals, scan_listed, scan_objects};
-use heap::{Batch, Groups, Heap};
+use heap::Heap;
+use page::Part;
 use refword::Addr;
-use std::alloc::{AllocError, Global};
+use std::alloc::Global;
 use std::thread::Threads;
 
 /// With fewer grey objects a wave isn't worth its threads.
-const FEW: u64 = 16_384;
+const FEW: u64 = 512;
 
 /// How many objects one thread scans at first, with the object that was marked last as the next one, before it is
 /// asked again whether a wave is worth it.
@@ -24,41 +26,30 @@ const PORTION: u64 = 4_096;
 /// How many it scans at most.
 const LONGEST: u64 = 1 << 20;
 
-/// Returns batches of nothing. Fails only if out of memory.
-fn empty_parts(alloc: Global, count: u32) -> Result<Vec<Batch, Global>, AllocError> {
-    let mut parts = Vec::with_capacity(alloc, count as usize)?;
-    for _part in 0..count {
-        parts.push(Batch::new(alloc))?;
-    }
-    Ok(parts)
-}
-
 /// What a drain keeps from one wave to the next: memory, and how it goes on while few objects are grey.
 #[derive(Drop)]
 struct Course {
-    /// What each thread finds.
-    parts: Vec<Batch, Global>,
+    /// On how many threads waves are done; none are, if fewer than two.
+    threads: u32,
     /// The grey objects, if they are few.
     grey: Vec<Addr, Global>,
     /// How many objects were grey before the last round, or 0 if no round was last.
     before: u64,
     /// How many objects are scanned in the next portion.
     portion: u64,
-    /// Whether that portion is next: what the last wave has marked, or what grey objects refer to, lies in order.
-    is_orderly: bool,
+    /// Whether that portion is next, as one part had most of the objects of the last wave.
+    is_uneven: bool,
 }
 
 impl Course {
-    /// Returns the course of a drain that begins on a number of threads. If there are fewer than two, or if out of
-    /// memory, it has no parts.
+    /// Returns the course of a drain that begins on a number of threads.
     fn new(alloc: Global, threads: u32) -> Course {
-        let parts = if threads < 2 { 0 } else { threads };
         Course {
-            parts: empty_parts(alloc, parts).unwrap_or(Vec::new(alloc)),
+            threads,
             grey: Vec::new(alloc),
             before: 0,
             portion: PORTION,
-            is_orderly: false,
+            is_uneven: false,
         }
     }
 
@@ -67,11 +58,11 @@ impl Course {
         objects > self.before.saturating_add(self.before / 8)
     }
 
-    /// Goes on with a portion: a long one, if objects lie in order.
-    fn go_on(&mut self, is_orderly: bool) {
+    /// Goes on after a wave: with a long portion, if one part had most of its objects.
+    fn go_on(&mut self, is_uneven: bool) {
         self.before = 0;
-        self.is_orderly = is_orderly;
-        self.portion = if is_orderly { LONGEST } else { PORTION };
+        self.is_uneven = is_uneven;
+        self.portion = if is_uneven { LONGEST } else { PORTION };
     }
 
     /// Returns how many objects the next portion scans; the one after it may be twice as long.
@@ -80,76 +71,69 @@ impl Course {
     {
         let portion = self.portion.max(1);
         self.before = 0;
-        self.is_orderly = false;
+        self.is_uneven = false;
         self.portion = portion.saturating_mul(2).min(LONGEST);
         portion
     }
 }
 
-/// Returns the groups of 2 to the power of `shift` pages that have a record.
-fn groups_of(heap: &Heap, shift: u32) -> Groups
-    requires { shift < 32 }
-    ensures small { result.shift < 32 }
-    ensures grey { length heap.now.todo ≤ result.count * 2 ^ result.shift }
-    ensures marked { length heap.now.mark ≤ result.count * 2 ^ result.shift }
+/// Has threads scan parts, each at most its share of `most` objects, and takes in what they have sent to each other.
+/// Returns how many objects were scanned. No worker has an object, and nothing is left to be copied.
+fn scan_parts<R: Threads + Sync>(
+    rt: &R,
+    heap: &mut Heap,
+    worker: u32,
+    most: u64,
+    parts: &mut [Part],
+) -> u64
+    requires ready { IsReady heap.old worker }
+    requires alone { list_any is_some heap.old.workers ≡ false }
+    requires new { AreNew (length heap.old.store.pages) parts.old }
+    ensures done { ObjectsDone heap.old worker result heap.new }
+    ensures few { result ≤ most }
 {
     heap.law();
-    let pages = heap.todo().rows().len();
-    Groups {
-        shift,
-        count: (pages >> shift) + 1,
-    }
+    let each = most / parts.len().max(1) as u64;
+    heap.raw_scan_by(rt, parts, each);
+    take_sent(heap, parts);
+    total(parts, each)
 }
 
-/// Returns the greatest exponent of a power of 2 that is at most a number of pages, or 0.
-fn shift_of(pages: usize) -> u32
-    ensures { result < 32 }
+/// Returns the index after the last page that has bitmaps.
+fn used_records(heap: &Heap, extent: Extent) -> usize
+    ensures { result ≤ length heap.now.store.pages }
 {
-    pages.max(1).ilog2().min(31)
+    extent.used.min(heap.memory().pages().len())
 }
 
-/// Returns whether the indexes of `count` times `size` pages from one index on are numbers of a machine.
-fn fits(first: usize, count: usize, size: usize) -> bool
-    ensures { result ≡ true → first + count * size < 2 ^ 64 }
-{
-    match count.checked_mul(size) {
-        None => false,
-        Some(pages) => first.checked_add(pages).is_some(),
-    }
-}
-
-/// Scans grey objects of `size` pages for each of some parts at once, from the page of an index on, each part on a
-/// thread of its own. Returns how many: none if they are more than `most`, or if a worker has an object. Nothing is
-/// left to be copied.
+/// Has threads scan what is grey, and what of their own pages they mark meanwhile, and returns how many objects they
+/// scanned: at most `most`; none if a worker has an object, or if out of memory.
 fn wave<R: Threads + Sync>(
     rt: &R,
     heap: &mut Heap,
     worker: u32,
     most: u64,
     extent: Extent,
-    parts: &mut [Batch],
+    course: &mut Course,
 ) -> u64
     requires { IsReady heap.old worker }
     ensures done { ObjectsDone heap.old worker result heap.new }
     ensures few { result ≤ most }
 {
-    heap.law();
-    let count = parts.len().max(1);
-    let size = extent.end.saturating_sub(extent.first).div_ceil(count);
-    if !is_alone(heap) || !fits(extent.first, parts.len(), size) {
-        return 0;
-    }
-    let groups = groups_of(heap, shift_of(extent.used.div_ceil(count)));
-    find_parts(rt, heap, extent.first, size, groups, parts);
-    let Some(found) = count_parts(parts, most) else {
+    let used = used_records(heap, extent);
+    let Ok(parts) = new_parts(heap.allocator(), course.threads, used) else {
         return 0;
     };
-    apply_parts(rt, heap, extent.first, parts, groups);
+    let mut parts = parts;
+    if !is_alone(heap) {
+        return 0;
+    }
+    let found = scan_parts(rt, heap, worker, most, &mut parts);
+    course.go_on(!are_balanced(&parts));
     found
 }
 
-/// Does a wave, and returns how many objects it scanned. If what it has marked lies in order, as in trees and lists,
-/// one thread is as fast, and a long portion is next.
+/// Does a wave, unless most grey objects are on the pages of one part: then a long portion is next.
 fn try_wave<R: Threads + Sync>(
     rt: &R,
     heap: &mut Heap,
@@ -162,15 +146,15 @@ fn try_wave<R: Threads + Sync>(
     ensures done { ObjectsDone heap.old worker result heap.new }
     ensures few { result ≤ most }
 {
-    let found = wave(rt, heap, worker, most, extent, &mut course.parts);
-    let is_orderly = !are_scattered(heap, &course.parts);
-    course.go_on(is_orderly);
-    found
+    if !are_spread(heap, extent, course.threads) {
+        course.go_on(true);
+        return 0;
+    }
+    wave(rt, heap, worker, most, extent, course)
 }
 
 /// Scans all objects that are grey now, one after the other on this thread, so that those which they mark are grey
-/// afterwards. Returns how many it scanned: none if what they refer to lies in order, for which a long portion is next;
-/// if they are more than `most`; or if out of memory for their list.
+/// afterwards. Returns how many it scanned: none if they are more than `most`, or if out of memory for their list.
 fn try_round(heap: &mut Heap, worker: u32, most: u64, extent: Extent, course: &mut Course) -> u64
     requires { IsReady heap.old worker }
     ensures done { ObjectsDone heap.old worker result heap.new }
@@ -178,10 +162,6 @@ fn try_round(heap: &mut Heap, worker: u32, most: u64, extent: Extent, course: &m
 {
     course.before = extent.objects;
     if list_grey(heap, extent.end, &mut course.grey).is_err() || course.grey.len() as u64 > most {
-        return 0;
-    }
-    if are_orderly(heap, &course.grey) {
-        course.go_on(true);
         return 0;
     }
     scan_listed(heap, worker, &course.grey)
@@ -200,7 +180,7 @@ fn scan_at_once<R: Threads + Sync>(
     ensures done { ObjectsDone heap.old worker result heap.new }
     ensures few { result ≤ most }
 {
-    if course.parts.is_empty() || course.is_orderly {
+    if course.threads < 2 || course.is_uneven {
         return 0;
     }
     let extent = extent_of(heap);

@@ -1,5 +1,5 @@
 use Rattle.std.proofs.Common.{arith}
-use Rattle.waves.proofs.Waved.{objects_then}
+use Rattle.waves.proofs.Drained.{objects_then}
 use Rattle.waves.proofs.waving.scan_by.Goals as goal
 
 pub returns-then-portion-clause-done : goal.returns-then-portion-clause-done

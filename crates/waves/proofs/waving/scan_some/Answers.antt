@@ -1,4 +1,4 @@
-use Rattle.waves.proofs.Waved.{objects_none}
+use Rattle.waves.proofs.Drained.{objects_none}
 use Rattle.waves.proofs.waving.scan_some.Goals as goal
 
 pub returns-clause-done : goal.returns-clause-done

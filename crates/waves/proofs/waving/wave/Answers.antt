@@ -1,11 +1,10 @@
-use Rattle.waves.specs.Finds.{start_of}
-use Rattle.waves.proofs.Waved.{parts_drain}
+use Rattle.std.proofs.Common.{length, subst, sym}
+use Rattle.waves.specs.Parts.{AreNew}
+use Rattle.waves.proofs.Building.{new_within}
 use Rattle.waves.proofs.waving.wave.Goals as goal
 
-pub returns-clause-done : goal.returns-clause-done
-returns-clause-done g c =
-    let h = c.args.heap.now in
-    parts_drain h c.apply_parts.new.heap c.args.worker c.in-Some.found (start_of h c.args.extent.first)
-    c.find_parts.new.parts
-    (record { scan = c.requires.scan; none = c.requires.none; worker = c.requires.worker })
-    c.law.ensures.store c.law.ensures.heap c.find_parts.ensures.found c.in-Some.ensures.count c.apply_parts.ensures
+pub scan_parts-found-requires-clause-new : goal.scan_parts-found-requires-clause-new
+scan_parts-found-requires-clause-new g c κs within =
+    subst (AreNew (length c.args.heap.now.store.pages)) (sym c.deref_mut.ensures.value)
+    (new_within c.used_records-used.result (length c.args.heap.now.store.pages) c.in-Ok.parts.items c.used_records-used.ensures
+    c.in-Ok.ensures)
