@@ -13,9 +13,6 @@ pub mod GivenRows
 pub mod Found
 pub mod Compared
 pub mod Sizes
-pub mod Noting
-pub mod Chunks
-pub mod Sorted
 pub mod Going
 pub mod Entries
 pub mod Slots

@@ -43,7 +43,7 @@ rows_next first mark todo owned i m g m2 g2 at d q so_far within marks greys own
     let here : drop i at ≡ p ∷ drop (i + 1) at = drop_more at i d within in
     let place : first + (i + 1) ≡ first + i + 1 = omega arith in
     let moved : SwappedRows (first + i + 1) (set m (first + i) p.marked) (set g (first + i) p.grey) (drop (i + 1) at)
-        marked grey rest =
+    marked grey rest =
     subst (λ n. SwappedRows n (set m (first + i) p.marked) (set g (first + i) p.grey) (drop (i + 1) at) marked grey rest)
     place
     (subst (λ us. SwappedRows (first + (i + 1)) us (set g (first + i) p.grey) (drop (i + 1) at) marked grey rest) marks

@@ -9,7 +9,5 @@ pub mod Runs
 pub mod Marking
 pub mod Found
 pub mod Writing
-pub mod Batches
-pub mod Sorting
 pub mod Entries
 pub mod Owning

@@ -9,7 +9,6 @@ pub mod edits;
 mod kept;
 mod making;
 mod marks;
-mod noting;
 pub mod opening;
 mod owning;
 pub mod references;
@@ -18,7 +17,6 @@ mod relocating;
 mod runs;
 mod sides;
 mod writing;
-mod writing_by;
 
 ghost use Rattle.std.specs.Prelude.{◌≡◌, ◌<◌, ◌≤◌, ◌*◌, ◌+◌, position, length, IfSome};
 ghost use Rattle.model.specs.Cycles.{is_lent};

@@ -58,6 +58,13 @@ impl IndexedRows {
         Ok(IndexedRows { rows, busy })
     }
 
+    /// Returns the bitmaps without the index.
+    pub fn rows(&self) -> &Rows
+        ensures { result.now ≡ self.now }
+    {
+        &self.rows
+    }
+
     /// Returns the bitmap of an index from 0, if it exists.
     pub fn get(&self, index: usize) -> Option<&Row>
         ensures { option_copied result ≡ slice_get self.now index }

@@ -6,7 +6,6 @@ mod indexed;
 mod indexed_row;
 mod ranked_row;
 mod rows;
-mod rows_by;
 mod word_row;
 
 pub use indexed::IndexedRows;

@@ -313,6 +313,14 @@ impl Rows {
         })
     }
 
+    /// Returns the number of bitmaps, with those that are empty.
+    pub fn len(&self) -> usize
+        ensures value { result ≡ length self.now }
+        ensures range { result < 2 ^ 63 }
+    {
+        self.rows.len()
+    }
+
     /// Returns the bitmap of an index from 0, if it exists.
     pub fn get(&self, index: usize) -> Option<&Row>
         ensures { option_copied result ≡ slice_get self.now index }

@@ -1,4 +1,4 @@
--- The last frames are empty, and other words in frames of the same lengths.
+-- Other words in frames of the same lengths.
 use Rattle.std.proofs.Common.{◌≡◌, ℕ, zero, suc, ◌+◌, ◌-◌, ◌≤◌, ◌<◌, List, [], ◌∷◌, ◌++◌, length, drop, take, set, map, Some}
 use Rattle.std.proofs.Common.{refl, sym, ◌∙◌, ap, arith, subst}
 use Rattle.std.specs.List.{slice_get}
@@ -7,19 +7,6 @@ use Rattle.std.proofs.lemmas.Option.{slice_get_within, get_or_from_slice_get, sa
 use Rattle.markbits.proofs.Prefixes.{front_again}
 use Rattle.model.specs.Owning.{IsStore}
 use Rattle.model.specs.Stores.{StoreState, record_count}
-use Rattle.page.specs.Changing.{AreEmpty}
-
-pub empty_more : {X : Type 0} (rows : List (List X)) (n : ℕ) → AreEmpty (drop n rows) → 0 < n
-    → slice_get rows (n - 1) ≡ Some [] → AreEmpty (drop (n - 1) rows)
-empty_more rows n e low at =
-    subst AreEmpty (sym (drop_more rows (n - 1) [] (slice_get_within rows (n - 1) [] at)
-    ∙ (λ j. get_or_from_slice_get rows (n - 1) [] [] at j ∷ drop (next n low j) rows))) (refl, e)
-  where
-    next : (n : ℕ) → 0 < n → n - 1 + 1 ≡ n
-    next n low = omega (arith, low)
-
-pub empty_none : {X : Type 0} (rows : List (List X)) (n : ℕ) → n ≡ length rows → AreEmpty (drop n rows)
-empty_none rows n e = subst AreEmpty (sym (drop_all n rows (omega (arith, e)))) tt
 
 -- ---- other words
 
@@ -69,17 +56,3 @@ frames_keep s fs h e =
         leaving = omega (arith, many, h.balanced.leaving);
       };
     }
-
--- ---- the first frames
-
-take_short : {X : Type 0} (m : ℕ) (xs : List X) → length (take m xs) ≤ m
-take_short zero xs = omega arith
-take_short (suc m) [] = omega arith
-take_short (suc m) (x ∷ xs) = let l = take_short m xs in omega (arith, l)
-
--- the first elements that were changed, of a list in which nothing was set past its end
-pub front_kept : {X : Type 0} (n m k : ℕ) (a b rest : List X) (x : X) → length a ≡ n → n ≤ m → m ≤ k
-    → take n (set (take m ((a ++ b) ++ rest)) k x) ≡ a
-front_kept n m k a b rest x e l after =
-    ap (take n) (set_past (take m ((a ++ b) ++ rest)) k x (omega (arith, after, take_short m ((a ++ b) ++ rest))))
-    ∙ front_again n m a b rest e l

@@ -10,5 +10,4 @@ pub mod Usable
 pub mod Sizes
 pub mod Whole
 pub mod Kept
-pub mod Changing
 pub mod Owned

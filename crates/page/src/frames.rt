@@ -1,5 +1,4 @@
 //! All frames of a store, of which two can be borrowed at once.
-mod changing;
 
 ghost use Rattle.std.specs.Prelude.{◌≡◌, ◌≢◌, ◌≤◌, ◌<◌, length, slice_get, slice_set, replicate, IfOk, IfSome, Some};
 ghost use Rattle.std.specs.Prelude.{if◌then◌else◌, true, []};

@@ -1,10 +1,10 @@
 //! Pages and their frames.
 mod behind;
 mod buffers;
-mod changing;
 mod ending;
 mod kept;
 mod lending;
+mod owning;
 mod relocating;
 mod runs;
 mod usable;

@@ -67,7 +67,7 @@ mark_bits s first ps i o None = ps
 mark_bits s first ps i o (Some zero) = ps
 mark_bits s first ps i o (Some (suc b)) =
     mark_target s first (change_at ps i (write_on o (bits_of (marked_in s (read_reference (suc b))))))
-        (marked_in s (read_reference (suc b)))
+    (marked_in s (read_reference (suc b)))
 
 abbrev pub send_bits : SceneState → ℕ → ℕ → Option ℕ → List Reference
 send_bits s first n None = []

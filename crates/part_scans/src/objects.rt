@@ -82,7 +82,15 @@ fn mark_words(
     ensures sent { sent.new.items ≡ sent.old.items ++ send_words scene.now first pages.old index offset count }
 {
     for number in 0..count {
-        mark_word(scene, first, pages, sent, index, offset + number as usize, hints);
+        mark_word(
+            scene,
+            first,
+            pages,
+            sent,
+            index,
+            offset + number as usize,
+            hints,
+        );
     }
 }
 

@@ -24,7 +24,9 @@ fn hinted(scene: &Scene<'_>, first: usize, hints: &mut Hints) -> Option<Place>
 {
     let number = hints.pop()?;
     Some(Place {
-        index: (scene.page_of(number) as usize).saturating_sub(1).saturating_sub(first),
+        index: (scene.page_of(number) as usize)
+            .saturating_sub(1)
+            .saturating_sub(first),
         offset: scene.offset_of(number) as usize,
     })
 }
@@ -87,7 +89,17 @@ fn scan_pages(
         let Some(place) = next_place(scene, first, pages, &mut hints, &mut cursor) else {
             return done;
         };
-        if scan_object(scene, first, pages, sent, place.index, place.offset, &mut hints).is_some() {
+        if scan_object(
+            scene,
+            first,
+            pages,
+            sent,
+            place.index,
+            place.offset,
+            &mut hints,
+        )
+        .is_some()
+        {
             done += 1;
         }
     }

@@ -13,7 +13,7 @@ use Rattle.model.specs.States.{Reference, HeapState, change_at, change_found}
 use Rattle.model.specs.Stores.{StoreState, record_count}
 use Rattle.model.proofs.Lists.{get_within}
 use Rattle.model.proofs.Tables.{get_map}
-use Rattle.heap.specs.Batches.{noted_in, all_noted_in, applied}
+use Rattle.waves.specs.Waves.{noted_in, all_noted_in, applied}
 use Rattle.heap.proofs.Keeping.{store_keeps}
 use Rattle.heap.proofs.Marking.{marks_keep, bit_keeps, bit_kept}
 use Rattle.page.specs.Owned.{words_or}
@@ -55,9 +55,12 @@ alike : {X : Type 0} (xs ys : List (List X)) (f : ℕ) (y : List X) → map leng
 alike xs ys f y e is =
     let many : length ys ≡ length xs =
     sym (length-map ys (λ z. length z)) ∙ ap length e ∙ length-map xs (λ z. length z) in
-    let (x, there) = get_within xs f (omega (arith, slice_get_within ys f y is, many)) in
-    (x, there, same_Some _ _ (sym (get_map (λ z. length z) ys f y is) ∙ ap (λ ns. slice_get ns f) e
-    ∙ get_map (λ z. length z) xs f x there))
+    let (x, there) = get_within xs f (omega (arith, slice_get_within ys f y is, many)) in (
+      x,
+      there,
+      same_Some _ _ (sym (get_map (λ z. length z) ys f y is) ∙ ap (λ ns. slice_get ns f) e
+          ∙ get_map (λ z. length z) xs f x there),
+    )
 
 many_alike : {X : Type 0} (xs ys : List (List X)) → map length ys ≡ map length xs → length ys ≡ length xs
 many_alike xs ys e = sym (length-map ys (λ z. length z)) ∙ ap length e ∙ length-map xs (λ z. length z)

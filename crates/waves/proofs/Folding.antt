@@ -12,7 +12,7 @@ use Rattle.drains.specs.Drains.{refs_at, marked_field, marked_fields, without_to
 use Rattle.drains.proofs.Blanks.{field_of_nothing, field_of_blank}
 use Rattle.drains.proofs.Scanned.{field_behind}
 use Rattle.drains.proofs.Waiting.{none_noted}
-use Rattle.heap.specs.Batches.{noted_in, all_noted_in, all_written, applied}
+use Rattle.waves.specs.Waves.{noted_in, all_noted_in, all_written, applied}
 use Rattle.waves.specs.Waves.{words_for, note_of, notes_for}
 
 -- ---- applying one after the other

@@ -5,7 +5,7 @@ use Rattle.std.specs.Prelude.{if◌then◌else◌}
 use Rattle.std.proofs.lemmas.Bool.{cases_eq, true≢false}
 use Rattle.model.specs.Bits.{bit_at, with_bit}
 use Rattle.model.specs.States.{Reference, HeapState}
-use Rattle.heap.specs.Batches.{noted_in, all_noted_in, applied}
+use Rattle.waves.specs.Waves.{noted_in, all_noted_in, applied}
 use Rattle.drains.proofs.Bits.{bits_two, bits_apart}
 use Rattle.waves.specs.Parts.{AreSent, sent_to}
 use Rattle.waves.proofs.Rows.{bit_set, bit_other}

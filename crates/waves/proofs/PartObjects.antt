@@ -14,7 +14,7 @@ use Rattle.model.specs.References.{field_address}
 use Rattle.model.specs.States.{Reference, HeapState, change_at}
 use Rattle.model.proofs.Lists.{get_within}
 use Rattle.model.proofs.Tables.{length_changed, row_short}
-use Rattle.heap.specs.Batches.{applied}
+use Rattle.waves.specs.Waves.{applied}
 use Rattle.drains.specs.Drains.{refs_at, refs_in, marked_fields, without_todo, scanned}
 use Rattle.drains.proofs.Scanned.{field_behind}
 use Rattle.page.specs.Owned.{words_or}
@@ -46,8 +46,12 @@ word_low h i x b p s fits e = by_frame (frame_of h.store.pages i) refl
     by_frame None z =
         let none : slice_get p.frame x ≡ None = none_in h i p x fits z in
         absurd (cc)
-    by_frame (Some f) z = omega (arith, slice_get_within p.frame x b e, frame_size h.store i f s z,
-        fits.frame ∙ ap (λ q. length (words_or h.store.frames q [])) z)
+    by_frame (Some f) z = omega (
+      arith,
+      slice_get_within p.frame x b e,
+      frame_size h.store i f s z,
+      fits.frame ∙ ap (λ q. length (words_or h.store.frames q [])) z,
+    )
 
 -- so is a bit
 bit_low : (row : List Bool) (o : ℕ) → get_or row o false ≡ true → o < length row

@@ -10,7 +10,7 @@ use Rattle.model.specs.Holding.{IsHeap}
 use Rattle.model.specs.Owning.{IsStore}
 use Rattle.model.specs.Scans.{is_scan_of, is_taken, is_free_todo}
 use Rattle.model.specs.States.{Reference, HeapState}
-use Rattle.heap.specs.Batches.{applied}
+use Rattle.waves.specs.Waves.{applied}
 use Rattle.drains.specs.Drains.{scanned, ObjectsDone}
 use Rattle.drains.proofs.Ended.{objects_next}
 use Rattle.page.specs.declared.owned.OwnedPage.{OwnedPage}
@@ -122,8 +122,7 @@ part_done f h w m first xs ps qs sent after d s heap none fits k e =
     let distinct = frames_distinct h.store s in
     let done = objects_done f h w m first xs ps qs sent [] after
     (subst₂ (λ (g : HeapState) (ns : List Reference). ObjectsDone f w m (sent_to g ns))
-    (pages_placed h first ps distinct) (sym (append_none sent)) d) s heap none fits k tt e in
-    (
+    (pages_placed h first ps distinct) (sym (append_none sent)) d) s heap none fits k tt e in (
       subst (λ (g : HeapState). ObjectsDone f w (m + length xs) (sent_to g (sent ++ after)))
           (sym (pages_placed h first qs distinct)) done.done,
       done.fits,

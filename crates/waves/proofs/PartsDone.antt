@@ -12,7 +12,7 @@ use Rattle.page.specs.declared.owned.OwnedPage.{OwnedPage}
 use Rattle.page.specs.declared.owned.Part.{Part}
 use Rattle.part_scans.specs.Scenes.{SceneState, scene_of}
 use Rattle.part_scans.specs.Scans.{Scans}
-use Rattle.heap.specs.Batches.{applied}
+use Rattle.waves.specs.Waves.{applied}
 use Rattle.heap.specs.Owning.{AllScanned, AreBack, AreLent, ArePagesOf, ArePlaced, ScansParts, put_pages, put_parts}
 use Rattle.heap.proofs.Shapes.{long_sized, sized_scans}
 use Rattle.waves.specs.Parts.{AreFew, AreSent, AreUnsent, FitsPages, all_scanned_in, all_sent, sent_to}

@@ -15,7 +15,7 @@ use Rattle.model.specs.Stores.{StoreState, page_at, frame_in, at_offset, spot_of
 use Rattle.model.specs.Stores.{with_word, with_words, changed_in, changed_frame}
 use Rattle.model.proofs.Lists.{get_within}
 use Rattle.model.proofs.Tables.{get_map, rows_many}
-use Rattle.heap.specs.Batches.{applied}
+use Rattle.waves.specs.Waves.{applied}
 use Rattle.page.specs.Owned.{put_frame, words_or}
 use Rattle.page.specs.declared.owned.OwnedPage.{OwnedPage}
 use Rattle.page.proofs.Copied.{same_set}

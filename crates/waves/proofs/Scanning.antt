@@ -18,7 +18,7 @@ use Rattle.model.specs.States.{Reference, HeapState, change_at, change_found}
 use Rattle.model.specs.Stores.{word_at}
 use Rattle.model.proofs.Lists.{get_within, get_set_same, get_set_other}
 use Rattle.model.proofs.Tables.{length_changed}
-use Rattle.heap.specs.Batches.{applied}
+use Rattle.waves.specs.Waves.{applied}
 use Rattle.drains.specs.Drains.{marked_field}
 use Rattle.page.specs.declared.owned.OwnedPage.{OwnedPage}
 use Rattle.part_scans.specs.Scenes.{SceneState, scene_of, resolved, marked_in}

@@ -6,7 +6,7 @@ use Rattle.refword.specs.Words.{address_in, mark_in}
 use Rattle.model.specs.Bits.{with_bit}
 use Rattle.model.specs.States.{Reference, HeapState}
 use Rattle.page.specs.declared.owned.Part.{Part}
-use Rattle.heap.specs.Batches.{applied}
+use Rattle.waves.specs.Waves.{applied}
 use Rattle.heap.specs.Marking.{MarksApart, MarksFirst, marked_at, noted}
 use Rattle.waves.specs.Parts.{all_sent, sent_to}
 use Rattle.waves.proofs.Folding.{applied_both, nothing_applied}

@@ -1,6 +1,6 @@
 -- The heap with the pages of a part, and what parts have sent.
 use Rattle.std.specs.Prelude.{◌≡◌, ℕ, ◌+◌, ◌/◌, ◌<◌, ◌≤◌, true, false, List, [], ◌∷◌, ◌++◌, Some, None, length}
-use Rattle.heap.specs.Batches.{applied}
+use Rattle.waves.specs.Waves.{applied}
 use Rattle.heap.specs.Owning.{AreBlank, ArePlaced, page_of}
 use Rattle.model.specs.States.{Reference, HeapState}
 use Rattle.page.specs.declared.owned.OwnedPage.{OwnedPage}

@@ -19,8 +19,8 @@ fn swap_rows_of(mark: &mut Rows, todo: &mut IndexedRows, index: usize, page: &mu
     ensures mark { mark.new ≡ slice_set mark.old index page.old.marked }
     ensures todo { todo.new ≡ slice_set todo.old index page.old.grey }
     ensures page { page.new ≡ record page.old {
-        marked = get_or mark.old index page.old.marked;
-        grey = get_or todo.old index page.old.grey;
+      marked = get_or mark.old index page.old.marked;
+      grey = get_or todo.old index page.old.grey;
     } }
 {
     mark.swap_row(index, &mut page.marked);

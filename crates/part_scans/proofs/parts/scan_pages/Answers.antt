@@ -12,7 +12,7 @@ loop-turn-init c = (
 
 pub loop-turn-preserved : goal.loop-turn-preserved
 loop-turn-preserved c = elim c.if-is_some.branch [
-  then-is_some w ↦ (
+  | then-is_some w ↦ (
     omega (arith, w.done-is, c.loop-turn.invariant.0),
     subst (λ n. AreScanned c.args.scene.now c.args.first n c.args.pages.now c.args.sent.now.items
         c.scan_object.new.pages c.scan_object.new.sent.items) (sym w.done-is)
@@ -30,4 +30,4 @@ loop-turn-preserved c = elim c.if-is_some.branch [
         c.scan_object.new.pages c.scan_object.new.sent.items c.loop-turn.invariant.1 c.scan_object.ensures
         (sym c.is_some.ensures ∙ w.if-is_some.false)),
   )
-  ]
+]
