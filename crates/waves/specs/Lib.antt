@@ -1,2 +1,3 @@
 pub mod Waves
 pub mod Parts
+pub mod Promises

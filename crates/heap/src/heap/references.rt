@@ -14,16 +14,6 @@ use crate::heap::edits::RawEdits;
 use model::{Place, Refusal};
 use refword::{Addr, Word};
 
-/// Returns the reference that 64 bits in memory are; bits that are no reference count as null.
-pub fn read_reference(bits: u64) -> Word
-    ensures { result ≡ read_reference bits }
-{
-    match Word::read(bits) {
-        None => Word::null(),
-        Some(word) => word,
-    }
-}
-
 impl Heap {
     /// Returns how many words after the address of an object a reference of it is, by the reference's number from 0,
     /// or `None` if the object has no such reference.
