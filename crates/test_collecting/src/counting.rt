@@ -1,12 +1,10 @@
 //! The number of parts of a collection.
 
 use crate::listing::{LIVE, check, heap_of, insert_all};
-use crate::same::same;
+use crate::same::{done, same};
 use collecting::{Collect, Parts};
-use model::Refusal;
 use std::alloc::Global;
 use std::process::Abort;
-use std::test::Fail;
 
 /// The page numbers of the heap.
 const PAGES: u32 = 48;
@@ -49,18 +47,30 @@ fn most_parts(budget: u32) -> u32 {
 
 /// Does the parts of one collection, up to a limit. Returns how many there were, including the last one.
 pub fn count_parts(
+    rt: &impl Abort,
     alloc: Global,
     heap: &mut impl Collect,
     parts: &mut Parts,
     budget: u32,
     most: u32,
-) -> Result<u32, Refusal> {
-    for done in 0..most {
-        if heap.collect_some(alloc, parts, 75, budget)? {
-            return Ok(done.wrapping_add(1));
+) -> u32 {
+    for part in 0..most {
+        if done(rt, heap.collect_some(alloc, parts, 75, budget)) {
+            return part.wrapping_add(1);
         }
     }
-    Ok(most.wrapping_add(1))
+    most.wrapping_add(1)
+}
+
+/// Does a collection in parts with this budget. Returns whether it has ended within 300 parts.
+pub fn has_ended(
+    rt: &impl Abort,
+    alloc: Global,
+    heap: &mut impl Collect,
+    parts: &mut Parts,
+    budget: u32,
+) -> bool {
+    count_parts(rt, alloc, heap, parts, budget, 300) <= 300
 }
 
 /// Does several collections, each of which ends within its parts. Returns how many parts they had.
@@ -70,47 +80,34 @@ fn collections(
     heap: &mut impl Collect,
     budget: u32,
     count: u32,
-) -> Result<u32, Fail> {
+) -> u32 {
     let most = most_parts(budget);
     let mut parts = Parts::new(alloc);
     let mut sum = 0u32;
     for _ in 0..count {
-        let taken = count_parts(alloc, heap, &mut parts, budget, most)?;
+        let taken = count_parts(rt, alloc, heap, &mut parts, budget, most);
         same(rt, taken <= most, true);
         sum = sum.wrapping_add(taken);
     }
-    Ok(sum)
+    sum
 }
 
-/// Four collections of a list among as many garbage objects, with this budget. Returns how many parts the first one
-/// had.
-fn counts(
-    rt: &impl Abort,
-    alloc: Global,
-    mut heap: impl Collect + Drop,
-    budget: u32,
-) -> Result<u32, Fail> {
-    insert_all(alloc, &mut heap)?;
-    let first = collections(rt, alloc, &mut heap, budget, 1)?;
-    collections(rt, alloc, &mut heap, budget, 3)?;
-    check(rt, &mut heap, LIVE)?;
-    Ok(first)
-}
-
-/// The first collection with this budget has exactly this many parts, which is the greatest number: there is enough
-/// to be emptied.
-fn takes(rt: &impl Abort, alloc: Global, budget: u32, wanted: u32) -> Result<(), Fail> {
-    let found = counts(rt, alloc, heap_of(alloc, PAGES)?, budget)?;
-    same(rt, found, wanted);
+/// Four collections of a list among as many garbage objects, with this budget. The first one has exactly this many
+/// parts, which is the greatest number: there is enough to be emptied.
+fn takes(rt: &impl Abort, alloc: Global, heap: &mut impl Collect, budget: u32, wanted: u32) {
+    insert_all(rt, alloc, heap);
+    let first = collections(rt, alloc, heap, budget, 1);
+    collections(rt, alloc, heap, budget, 3);
+    check(rt, heap, LIVE);
+    same(rt, first, wanted);
     same(rt, most_parts(budget), wanted);
-    Ok(())
 }
 
 /// The smaller the budget, the more parts.
 #[test]
-fn parts_by_budget(rt: HostRuntime) -> Result<(), Fail> {
+fn parts_by_budget(rt: HostRuntime) {
     for (budget, parts) in [(1, 44), (2, 29), (16, 15), (1000, 14)] {
-        takes(&rt, rt.alloc(), budget, parts)?;
+        let mut heap = heap_of(&rt, rt.alloc(), PAGES);
+        takes(&rt, rt.alloc(), &mut heap, budget, parts);
     }
-    Ok(())
 }

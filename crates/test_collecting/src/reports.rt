@@ -1,44 +1,41 @@
 //! Reports of the heap of a program.
 
-use crate::same::same;
+use crate::same::{done, same};
 use collecting::Collect;
 use heap::Config;
 use layout::{Layout, Layouts};
 use managed::ManagedHeap;
-use model::Refusal;
 use reporting::report_heap;
 use std::alloc::Global;
 use std::process::Abort;
-use std::test::Fail;
 
 /// A heap of which a report can be written.
 trait Told: Collect {
-    fn told(&self, alloc: Global) -> Result<Vec<u8>, Fail>;
+    fn told<R: Abort>(&self, rt: &R, alloc: Global) -> Vec<u8>;
 }
 
 impl Told for ManagedHeap {
-    fn told(&self, alloc: Global) -> Result<Vec<u8>, Fail> {
+    fn told<R: Abort>(&self, rt: &R, alloc: Global) -> Vec<u8> {
         let mut written = Vec::new(alloc);
-        report_heap(alloc, self.heap(), &mut written)?;
-        Ok(written)
+        done(rt, report_heap(alloc, self.heap(), &mut written));
+        written
     }
 }
 
 /// The report of a heap has these lines.
-fn tells(rt: &impl Abort, alloc: Global, heap: &impl Told, wanted: &str) -> Result<(), Fail> {
-    let written = heap.told(alloc)?;
+fn tells(rt: &impl Abort, alloc: Global, heap: &impl Told, wanted: &str) {
+    let written = heap.told(rt, alloc);
     same(rt, written.as_slice(), wanted.as_bytes());
-    Ok(())
 }
 
 /// A heap of two threads with two registers each, and one global.
-fn new_heap(alloc: Global) -> Result<ManagedHeap, Fail> {
-    let layouts = Layouts::new(vec![in alloc; Layout { refs: 1, nums: 1 }]?);
+fn new_heap(rt: &impl Abort, alloc: Global) -> ManagedHeap {
+    let layouts = Layouts::new(done(rt, vec![in alloc; Layout { refs: 1, nums: 1 }]));
     let mut config = Config::new(16, 2, layouts);
     config.threads = 2;
     config.registers = 2;
     config.globals = 1;
-    Ok(ManagedHeap::new(alloc, config)?)
+    done(rt, ManagedHeap::new(alloc, config))
 }
 
 /// Before the first step.
@@ -71,26 +68,27 @@ barrier 0 loads 2 gc 1 nmt 0 healed 1 changed 0
 barrier 1 loads 0 gc 0 nmt 0 healed 0 changed 0
 ";
 
-fn make_two(heap: &mut impl Collect) -> Result<(), Refusal> {
-    heap.take(0, 16)?;
-    heap.new_object(0, 0, 0)?;
-    heap.new_object(0, 1, 0)?;
-    heap.store_global(0, 0, 0)?;
-    heap.read_global(0, 1, 0)?;
-    heap.park(1)
+fn make_two(rt: &impl Abort, heap: &mut impl Collect) {
+    done(rt, heap.take(0, 16));
+    done(rt, heap.new_object(0, 0, 0));
+    done(rt, heap.new_object(0, 1, 0));
+    done(rt, heap.store_global(0, 0, 0));
+    done(rt, heap.read_global(0, 1, 0));
+    done(rt, heap.park(1));
 }
 
-fn reports(rt: &impl Abort, alloc: Global, mut heap: impl Told + Drop) -> Result<(), Fail> {
-    tells(rt, alloc, &heap, NEW)?;
-    make_two(&mut heap)?;
-    tells(rt, alloc, &heap, USED)?;
-    heap.give_back(0)?;
-    heap.collect(alloc, 75)?;
-    heap.read_global(0, 1, 0)?;
-    tells(rt, alloc, &heap, MOVED)
+fn reports(rt: &impl Abort, alloc: Global, heap: &mut impl Told) {
+    tells(rt, alloc, heap, NEW);
+    make_two(rt, heap);
+    tells(rt, alloc, heap, USED);
+    done(rt, heap.give_back(0));
+    done(rt, heap.collect(alloc, 75));
+    done(rt, heap.read_global(0, 1, 0));
+    tells(rt, alloc, heap, MOVED);
 }
 
 #[test]
-fn lines_of_a_held_heap(rt: HostRuntime) -> Result<(), Fail> {
-    reports(&rt, rt.alloc(), new_heap(rt.alloc())?)
+fn lines_of_a_held_heap(rt: HostRuntime) {
+    let mut heap = new_heap(&rt, rt.alloc());
+    reports(&rt, rt.alloc(), &mut heap);
 }

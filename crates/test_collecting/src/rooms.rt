@@ -1,13 +1,11 @@
 //! Objects that are allocated in small heaps, which are collected for them.
 
 use crate::heaps::new_heap;
-use crate::same::same;
+use crate::same::{done, same};
 use collecting::{Collect, Collected, Object, Policy};
-use managed::ManagedHeap;
 use model::Refusal;
 use std::alloc::Global;
 use std::process::Abort;
-use std::test::Fail;
 
 /// The one thread, and registers for what is kept and for what isn't.
 const ME: u32 = 0;
@@ -16,77 +14,41 @@ const KEPT: u32 = 0;
 
 const LOST: u32 = 1;
 
-/// Allocates `count` garbage objects, not even kept in a register.
-fn waste_all(
-    alloc: Global,
-    heap: &mut impl Collect,
-    frames: u32,
-    count: u32,
-) -> Result<(), Refusal> {
-    for _ in 0..count {
-        heap.make(alloc, Policy::usual(16, frames), ME, LOST, 0)?;
-        heap.clear_register(ME, LOST)?;
+/// Garbage objects can be allocated for ever; all but the last one, unless each is cleared.
+fn wastes(rt: &impl Abort, alloc: Global, heap: &mut impl Collect, frames: u32, is_cleared: bool) {
+    for _ in 0..1000 {
+        done(rt, heap.make(alloc, Policy::usual(16, frames), ME, LOST, 0));
+        if is_cleared {
+            done(rt, heap.clear_register(ME, LOST));
+        }
     }
-    Ok(())
-}
-
-/// Allocates `count` garbage objects, except the last one.
-fn waste(alloc: Global, heap: &mut impl Collect, frames: u32, count: u32) -> Result<(), Refusal> {
-    for _ in 0..count {
-        heap.make(alloc, Policy::usual(16, frames), ME, LOST, 0)?;
-    }
-    Ok(())
-}
-
-/// Garbage objects can be allocated for ever.
-fn wastes_all(
-    rt: &impl Abort,
-    alloc: Global,
-    mut heap: impl Collect + Drop,
-    frames: u32,
-) -> Result<(), Fail> {
-    same(rt, waste_all(alloc, &mut heap, frames, 1000), Ok(()));
-    Ok(())
-}
-
-/// So can garbage objects, except for the last one, which is kept.
-fn wastes(
-    rt: &impl Abort,
-    alloc: Global,
-    mut heap: impl Collect + Drop,
-    frames: u32,
-) -> Result<(), Fail> {
-    same(rt, waste(alloc, &mut heap, frames, 1000), Ok(()));
-    Ok(())
 }
 
 #[test]
-fn one_frame(rt: HostRuntime) -> Result<(), Fail> {
+fn one_frame(rt: HostRuntime) {
     for pages in [1, 2] {
-        wastes_all(&rt, rt.alloc(), new_heap(rt.alloc(), 1, pages)?, 1)?;
+        let mut heap = new_heap(&rt, rt.alloc(), 1, pages);
+        wastes(&rt, rt.alloc(), &mut heap, 1, true);
     }
-    Ok(())
 }
 
 #[test]
-fn more_frames(rt: HostRuntime) -> Result<(), Fail> {
+fn more_frames(rt: HostRuntime) {
     for (frames, pages) in [(2, 2), (3, 6)] {
-        wastes(
-            &rt,
-            rt.alloc(),
-            new_heap(rt.alloc(), frames, pages)?,
-            frames,
-        )?;
+        let mut heap = new_heap(&rt, rt.alloc(), frames, pages);
+        wastes(&rt, rt.alloc(), &mut heap, frames, false);
     }
-    Ok(())
 }
 
 /// An object is kept among garbage, and it moves.
-fn keeps(rt: &impl Abort, alloc: Global, mut heap: impl Collect + Drop) -> Result<(), Fail> {
-    let policy = Policy::usual(16, 3);
-    same(rt, heap.make(alloc, policy, ME, KEPT, 0), Ok(0));
-    heap.set_datum(ME, KEPT, 0, 9)?;
-    waste(alloc, &mut heap, 3, 1000)?;
+fn keeps(rt: &impl Abort, alloc: Global, heap: &mut impl Collect) {
+    same(
+        rt,
+        heap.make(alloc, Policy::usual(16, 3), ME, KEPT, 0),
+        Ok(0),
+    );
+    done(rt, heap.set_datum(ME, KEPT, 0, 9));
+    wastes(rt, alloc, heap, 3, false);
     same(rt, heap.datum(ME, KEPT, 0), Ok(9));
     let seen = Object {
         birth: 0,
@@ -96,25 +58,25 @@ fn keeps(rt: &impl Abort, alloc: Global, mut heap: impl Collect + Drop) -> Resul
     };
     same(rt, heap.object(ME, KEPT), Ok(seen));
     same(rt, heap.object(ME, 2), Err(Refusal::Null));
-    Ok(())
 }
 
 #[test]
-fn one_is_kept(rt: HostRuntime) -> Result<(), Fail> {
-    keeps(&rt, rt.alloc(), new_heap(rt.alloc(), 3, 6)?)
+fn one_is_kept(rt: HostRuntime) {
+    let mut heap = new_heap(&rt, rt.alloc(), 3, 6);
+    keeps(&rt, rt.alloc(), &mut heap);
 }
 
 /// A list of objects, each of which the next refers to: at last the heap is full, and stays so.
-fn fills(rt: &impl Abort, alloc: Global, mut heap: impl Collect + Drop) -> Result<(), Fail> {
+fn fills(rt: &impl Abort, alloc: Global, heap: &mut impl Collect) {
     let policy = Policy::usual(16, 3);
     for _ in 0..15 {
-        heap.make(alloc, policy, ME, LOST, 0)?;
-        heap.store(ME, LOST, 0, KEPT)?;
-        heap.copy_register(ME, KEPT, LOST)?;
+        done(rt, heap.make(alloc, policy, ME, LOST, 0));
+        done(rt, heap.store(ME, LOST, 0, KEPT));
+        done(rt, heap.copy_register(ME, KEPT, LOST));
     }
     let full = Err(Refusal::NoFrames { need: 1, free: 0 });
     same(rt, heap.make(alloc, policy, ME, LOST, 0), full);
-    heap.clear_register(ME, LOST)?;
+    done(rt, heap.clear_register(ME, LOST));
     let all = Collected {
         live: 15,
         live_words: 45,
@@ -122,7 +84,7 @@ fn fills(rt: &impl Abort, alloc: Global, mut heap: impl Collect + Drop) -> Resul
         copied: 0,
     };
     same(rt, heap.collect(alloc, 75), Ok(all));
-    heap.clear_register(ME, KEPT)?;
+    done(rt, heap.clear_register(ME, KEPT));
     let none = Collected {
         live: 0,
         live_words: 0,
@@ -130,22 +92,22 @@ fn fills(rt: &impl Abort, alloc: Global, mut heap: impl Collect + Drop) -> Resul
         copied: 0,
     };
     same(rt, heap.collect(alloc, 75), Ok(none));
-    Ok(())
 }
 
 #[test]
-fn full(rt: HostRuntime) -> Result<(), Fail> {
-    fills(&rt, rt.alloc(), new_heap(rt.alloc(), 3, 6)?)
+fn full(rt: HostRuntime) {
+    let mut heap = new_heap(&rt, rt.alloc(), 3, 6);
+    fills(&rt, rt.alloc(), &mut heap);
 }
 
 /// A thread inside a load prevents the end of a collection; after the load it continues.
-fn waits(rt: &impl Abort, alloc: Global, mut heap: impl Collect + Drop) -> Result<(), Fail> {
-    heap.make(alloc, Policy::usual(16, 3), ME, KEPT, 0)?;
-    heap.load(ME, LOST, KEPT, 0)?;
+fn waits(rt: &impl Abort, alloc: Global, heap: &mut impl Collect) {
+    done(rt, heap.make(alloc, Policy::usual(16, 3), ME, KEPT, 0));
+    done(rt, heap.load(ME, LOST, KEPT, 0));
     let behind = Err(Refusal::NotCrossed { thread: 0 });
     same(rt, heap.collect(alloc, 50), behind);
-    heap.trap(ME)?;
-    heap.finish(ME)?;
+    done(rt, heap.trap(ME));
+    done(rt, heap.finish(ME));
     let one = Collected {
         live: 1,
         live_words: 3,
@@ -153,10 +115,10 @@ fn waits(rt: &impl Abort, alloc: Global, mut heap: impl Collect + Drop) -> Resul
         copied: 0,
     };
     same(rt, heap.collect(alloc, 50), Ok(one));
-    Ok(())
 }
 
 #[test]
-fn a_load_is_open(rt: HostRuntime) -> Result<(), Fail> {
-    waits(&rt, rt.alloc(), new_heap(rt.alloc(), 3, 6)?)
+fn a_load_is_open(rt: HostRuntime) {
+    let mut heap = new_heap(&rt, rt.alloc(), 3, 6);
+    waits(&rt, rt.alloc(), &mut heap);
 }
