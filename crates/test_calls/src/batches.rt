@@ -1,15 +1,13 @@
 //! Several loads by one call, and new objects that are filled.
 
-use crate::heaps::new_heap;
-use crate::same::same;
+use crate::heaps::{heap_of, new_heap};
+use crate::same::{done, same};
 use collecting::{Collect, Policy};
-use heap::Config;
-use layout::{Layout, Layouts};
-use managed::{FieldLoad, LoadsFault, ManagedHeap};
+use layout::Layout;
+use managed::{FieldLoad, LoadsFault};
 use model::Refusal;
 use std::alloc::Global;
 use std::process::Abort;
-use std::test::Fail;
 
 const ME: u32 = 0;
 
@@ -28,18 +26,23 @@ const POLICY: Policy = Policy {
     percent: 75,
 };
 
-/// A heap with objects of two references and two data words.
-fn new_pairs(alloc: Global) -> Result<ManagedHeap, Fail> {
-    let layouts = Layouts::new(vec![in alloc; Layout { refs: 2, nums: 2 }]?);
-    Ok(ManagedHeap::new(alloc, Config::new(16, 8, layouts))?)
-}
+/// Objects of two references and two data words.
+const PAIR: Layout = Layout { refs: 2, nums: 2 };
 
 /// Allocates two objects with a number each, and one that refers to both, first to the second.
-fn pair(alloc: Global, heap: &mut impl Collect) -> Result<(), Refusal> {
-    heap.make_with(alloc, POLICY, ME, FIRST, 0, &[], &[1, 10])?;
-    heap.make_with(alloc, POLICY, ME, SECOND, 0, &[FIRST, SECOND], &[2])?;
-    heap.make_with(alloc, POLICY, ME, BOTH, 0, &[SECOND, FIRST], &[3, 30])?;
-    Ok(())
+fn pair(rt: &impl Abort, alloc: Global, heap: &mut impl Collect) {
+    done(
+        rt,
+        heap.make_with(alloc, POLICY, ME, FIRST, 0, &[], &[1, 10]),
+    );
+    done(
+        rt,
+        heap.make_with(alloc, POLICY, ME, SECOND, 0, &[FIRST, SECOND], &[2]),
+    );
+    done(
+        rt,
+        heap.make_with(alloc, POLICY, ME, BOTH, 0, &[SECOND, FIRST], &[3, 30]),
+    );
 }
 
 fn load(target: u32, field: u32) -> FieldLoad {
@@ -47,8 +50,8 @@ fn load(target: u32, field: u32) -> FieldLoad {
 }
 
 /// The object has what was given: a source that is the new object's own register refers to the new object.
-fn is_filled(rt: &impl Abort, alloc: Global, mut heap: impl Collect + Drop) {
-    same(rt, pair(alloc, &mut heap), Ok(()));
+fn is_filled(rt: &impl Abort, alloc: Global, heap: &mut impl Collect) {
+    pair(rt, alloc, heap);
     same(rt, heap.datum(ME, BOTH, 1), Ok(30));
     let both = [load(FIRST, 0), load(READ, 1)];
     same(rt, heap.loads(ME, BOTH, &both), Ok(()));
@@ -60,14 +63,14 @@ fn is_filled(rt: &impl Abort, alloc: Global, mut heap: impl Collect + Drop) {
 }
 
 #[test]
-fn objects_are_filled(rt: HostRuntime) -> Result<(), Fail> {
-    is_filled(&rt, rt.alloc(), new_pairs(rt.alloc())?);
-    Ok(())
+fn objects_are_filled(rt: HostRuntime) {
+    let mut heap = heap_of(&rt, rt.alloc(), 8, PAIR);
+    is_filled(&rt, rt.alloc(), &mut heap);
 }
 
 /// Loads stop at the first that fails, and return how many are done; these stay.
-fn stops(rt: &impl Abort, alloc: Global, mut heap: impl Collect + Drop) {
-    same(rt, pair(alloc, &mut heap), Ok(()));
+fn stops(rt: &impl Abort, alloc: Global, heap: &mut impl Collect) {
+    pair(rt, alloc, heap);
     let fault = LoadsFault {
         done: 1,
         refusal: Refusal::BadIndex,
@@ -80,14 +83,14 @@ fn stops(rt: &impl Abort, alloc: Global, mut heap: impl Collect + Drop) {
 }
 
 #[test]
-fn loads_stop_at_the_first_that_fails(rt: HostRuntime) -> Result<(), Fail> {
-    stops(&rt, rt.alloc(), new_pairs(rt.alloc())?);
-    Ok(())
+fn loads_stop_at_the_first_that_fails(rt: HostRuntime) {
+    let mut heap = heap_of(&rt, rt.alloc(), 8, PAIR);
+    stops(&rt, rt.alloc(), &mut heap);
 }
 
 /// If the object can't be filled none is allocated, and the register stays.
-fn makes_none(rt: &impl Abort, alloc: Global, mut heap: impl Collect + Drop) {
-    same(rt, pair(alloc, &mut heap), Ok(()));
+fn makes_none(rt: &impl Abort, alloc: Global, heap: &mut impl Collect) {
+    pair(rt, alloc, heap);
     for (layout, sources) in [(1, [FIRST]), (0, [16])] {
         let made = heap.make_with(alloc, POLICY, ME, BOTH, layout, &sources, &[]);
         same(rt, made, Err(Refusal::BadIndex));
@@ -103,34 +106,39 @@ fn makes_none(rt: &impl Abort, alloc: Global, mut heap: impl Collect + Drop) {
 }
 
 #[test]
-fn nothing_is_made_that_cant_be_filled(rt: HostRuntime) -> Result<(), Fail> {
-    makes_none(&rt, rt.alloc(), new_pairs(rt.alloc())?);
-    Ok(())
+fn nothing_is_made_that_cant_be_filled(rt: HostRuntime) {
+    let mut heap = heap_of(&rt, rt.alloc(), 8, PAIR);
+    makes_none(&rt, rt.alloc(), &mut heap);
 }
 
 /// Allocates objects that refer to the one before, of which the last few are kept: the heap is collected for them.
-fn chain(alloc: Global, heap: &mut impl Collect, count: u64) -> Result<(), Refusal> {
+fn chain(rt: &impl Abort, alloc: Global, heap: &mut impl Collect, count: u64) {
     let policy = Policy::usual(16, 4);
-    heap.make_with(alloc, policy, ME, FIRST, 0, &[], &[0])?;
+    done(rt, heap.make_with(alloc, policy, ME, FIRST, 0, &[], &[0]));
     for number in 1..count {
-        heap.copy_register(ME, SECOND, FIRST)?;
-        heap.make_with(alloc, policy, ME, FIRST, 0, &[SECOND], &[number])?;
+        done(rt, heap.copy_register(ME, SECOND, FIRST));
+        done(
+            rt,
+            heap.make_with(alloc, policy, ME, FIRST, 0, &[SECOND], &[number]),
+        );
         if number % 4 == 0 {
-            heap.make_with(alloc, policy, ME, FIRST, 0, &[], &[number])?;
+            done(
+                rt,
+                heap.make_with(alloc, policy, ME, FIRST, 0, &[], &[number]),
+            );
         }
     }
-    Ok(())
 }
 
-fn is_chained(rt: &impl Abort, alloc: Global, mut heap: impl Collect + Drop) {
-    same(rt, chain(alloc, &mut heap, 1000), Ok(()));
+fn is_chained(rt: &impl Abort, alloc: Global, heap: &mut impl Collect) {
+    chain(rt, alloc, heap, 1000);
     same(rt, heap.loads(ME, FIRST, &[load(SECOND, 0)]), Ok(()));
     same(rt, heap.datum(ME, FIRST, 0), Ok(999));
     same(rt, heap.datum(ME, SECOND, 0), Ok(998));
 }
 
 #[test]
-fn the_heap_is_collected_for_them(rt: HostRuntime) -> Result<(), Fail> {
-    is_chained(&rt, rt.alloc(), new_heap(rt.alloc(), 4, 8)?);
-    Ok(())
+fn the_heap_is_collected_for_them(rt: HostRuntime) {
+    let mut heap = new_heap(&rt, rt.alloc(), 4, 8);
+    is_chained(&rt, rt.alloc(), &mut heap);
 }

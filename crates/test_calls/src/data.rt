@@ -1,15 +1,13 @@
 //! Many data words and bytes by one call. `tests/c/bytes.c` has them at all places, and each error but that of a
 //! parked thread.
 
-use crate::same::same;
+use crate::heaps::heap_of;
+use crate::same::{done, same};
 use collecting::{Collect, Policy};
-use heap::Config;
-use layout::{Layout, Layouts};
-use managed::ManagedHeap;
+use layout::Layout;
 use model::Refusal;
 use std::alloc::Global;
 use std::process::Abort;
-use std::test::Fail;
 
 const ME: u32 = 0;
 
@@ -25,23 +23,22 @@ const POLICY: Policy = Policy {
 };
 
 /// Words are written, copied to another object, and read; and so are bytes of two words.
-fn moves(rt: &impl Abort, alloc: Global, heap: &mut impl Collect) -> Result<(), Refusal> {
+fn moves(rt: &impl Abort, alloc: Global, heap: &mut impl Collect) {
     let (mut words, mut bytes) = ([0; 2], [0; 3]);
-    heap.make(alloc, POLICY, ME, SOURCE, 0)?;
-    heap.make(alloc, POLICY, ME, TARGET, 0)?;
-    heap.set_many(ME, SOURCE, 0, &[1, 2, 3])?;
-    heap.copy_data(ME, TARGET, 0, SOURCE, 1, 2)?;
-    heap.write_bytes(ME, TARGET, 7, &[9, 8])?;
-    heap.get_many(ME, TARGET, 0, &mut words)?;
+    done(rt, heap.make(alloc, POLICY, ME, SOURCE, 0));
+    done(rt, heap.make(alloc, POLICY, ME, TARGET, 0));
+    done(rt, heap.set_many(ME, SOURCE, 0, &[1, 2, 3]));
+    done(rt, heap.copy_data(ME, TARGET, 0, SOURCE, 1, 2));
+    done(rt, heap.write_bytes(ME, TARGET, 7, &[9, 8]));
+    done(rt, heap.get_many(ME, TARGET, 0, &mut words));
     same(rt, words, [0x0900_0000_0000_0002, 8]);
-    heap.read_bytes(ME, TARGET, 6, &mut bytes)?;
+    done(rt, heap.read_bytes(ME, TARGET, 6, &mut bytes));
     same(rt, bytes, [0, 9, 8]);
-    Ok(())
 }
 
 /// A parked thread neither copies nor reads nor writes.
-fn is_parked(rt: &impl Abort, heap: &mut impl Collect) -> Result<(), Refusal> {
-    heap.park(ME)?;
+fn is_parked(rt: &impl Abort, heap: &mut impl Collect) {
+    done(rt, heap.park(ME));
     for reply in [
         heap.copy_data(ME, SOURCE, 0, SOURCE, 0, 1),
         heap.get_many(ME, SOURCE, 0, &mut [0]),
@@ -51,14 +48,12 @@ fn is_parked(rt: &impl Abort, heap: &mut impl Collect) -> Result<(), Refusal> {
     ] {
         same(rt, reply, Err(Refusal::Parked));
     }
-    heap.unpark(ME)
+    done(rt, heap.unpark(ME));
 }
 
 #[test]
-fn many_words(rt: HostRuntime) -> Result<(), Fail> {
-    let layouts = Layouts::new(vec![in rt.alloc(); Layout { refs: 0, nums: 3 }]?);
-    let mut heap = ManagedHeap::new(rt.alloc(), Config::new(16, 4, layouts))?;
-    moves(&rt, rt.alloc(), &mut heap)?;
-    is_parked(&rt, &mut heap)?;
-    Ok(())
+fn many_words(rt: HostRuntime) {
+    let mut heap = heap_of(&rt, rt.alloc(), 4, Layout { refs: 0, nums: 3 });
+    moves(&rt, rt.alloc(), &mut heap);
+    is_parked(&rt, &mut heap);
 }

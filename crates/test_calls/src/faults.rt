@@ -1,34 +1,29 @@
 //! Kinds of errors.
 
-use crate::same::same;
+use crate::same::{done, same};
 use collecting::CallFault;
 use model::Refusal;
-use std::alloc::{AllocError, Global};
+use std::alloc::Global;
 use std::fmt::Write as _;
 use std::process::Abort;
-use std::test::Fail;
 
-/// Returns the text of the fault of an error.
-fn text(alloc: Global, refusal: Refusal) -> Result<String, AllocError> {
+/// A fault has this text.
+pub fn tells(rt: &impl Abort, alloc: Global, fault: CallFault, wanted: &str) {
     let mut text = String::new(alloc);
-    let fault = CallFault::from(refusal);
-    write!(text, "{fault}")?;
-    Ok(text)
-}
-
-/// An error has this text.
-fn tells(rt: &impl Abort, alloc: Global, refusal: Refusal, wanted: &str) -> Result<(), Fail> {
-    same(rt, text(alloc, refusal)?.as_str(), wanted);
-    Ok(())
+    done(rt, write!(text, "{fault}"));
+    same(rt, text.as_str(), wanted);
 }
 
 #[test]
-fn texts(rt: HostRuntime) -> Result<(), Fail> {
-    let alloc = rt.alloc();
-    tells(&rt, alloc, Refusal::Null, "the register is null")?;
-    tells(&rt, alloc, Refusal::BadIndex, "a number names nothing")?;
-    tells(&rt, alloc, Refusal::NoPages, "the heap has no room")?;
-    tells(&rt, alloc, Refusal::Memory, "memory was refused")?;
-    tells(&rt, alloc, Refusal::Births, "no more objects may be born")?;
-    tells(&rt, alloc, Refusal::Busy, "refused Busy")
+fn texts(rt: HostRuntime) {
+    for (refusal, wanted) in [
+        (Refusal::Null, "the register is null"),
+        (Refusal::BadIndex, "a number names nothing"),
+        (Refusal::NoPages, "the heap has no room"),
+        (Refusal::Memory, "memory was refused"),
+        (Refusal::Births, "no more objects may be born"),
+        (Refusal::Busy, "refused Busy"),
+    ] {
+        tells(&rt, rt.alloc(), CallFault::from(refusal), wanted);
+    }
 }

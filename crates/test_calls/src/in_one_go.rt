@@ -1,15 +1,13 @@
 //! Calls that are done in one go: on a heap that isn't collected each of them is, also while a thread has an open
 //! load. Their contracts allow that nothing is done; then the slow call does it.
 
+use crate::heaps::heap_of;
 use crate::same::same;
 use collecting::{Collect, Policy};
-use heap::Config;
-use layout::{Layout, Layouts};
+use layout::Layout;
 use managed::ManagedHeap;
-use model::Refusal;
 use std::alloc::Global;
 use std::process::Abort;
-use std::test::Fail;
 
 const ME: u32 = 0;
 
@@ -38,27 +36,20 @@ impl InOneGo for ManagedHeap {
     }
 }
 
-/// Allocates an object of two references and one data word.
-fn make(alloc: Global, heap: &mut impl Collect) -> Result<u64, Refusal> {
+/// All calls on a new object of two references and one data word are done, and once more.
+fn all_done(rt: &impl Abort, alloc: Global, heap: &mut impl InOneGo) {
     let policy = Policy {
         words: 16,
         free: 0,
         percent: 75,
     };
-    heap.make(alloc, policy, ME, NODE, 0)
-}
-
-/// All calls on a new object are done, and once more.
-fn all_done(rt: &impl Abort, alloc: Global, mut heap: impl InOneGo + Drop) {
-    same(rt, make(alloc, &mut heap), Ok(0));
+    same(rt, heap.make(alloc, policy, ME, NODE, 0), Ok(0));
     same(rt, heap.are_done(), [true; 6]);
     same(rt, heap.are_done(), [true; 6]);
 }
 
 #[test]
-fn calls_are_done_in_one_go(rt: HostRuntime) -> Result<(), Fail> {
-    let layouts = Layouts::new(vec![in rt.alloc(); Layout { refs: 2, nums: 1 }]?);
-    let heap = ManagedHeap::new(rt.alloc(), Config::new(16, 8, layouts))?;
-    all_done(&rt, rt.alloc(), heap);
-    Ok(())
+fn calls_are_done_in_one_go(rt: HostRuntime) {
+    let mut heap = heap_of(&rt, rt.alloc(), 8, Layout { refs: 2, nums: 1 });
+    all_done(&rt, rt.alloc(), &mut heap);
 }

@@ -1,14 +1,13 @@
 //! Which number of a call names nothing, and policies that are out of their range.
 
+use crate::faults::tells;
 use crate::heaps::new_heap;
-use crate::same::same;
+use crate::same::{done, same};
 use collecting::{CallFault, Collect, Number, Policy, PolicyFault};
 use managed::ManagedHeap;
 use model::{Refusal, Step};
-use std::alloc::{AllocError, Global};
-use std::fmt::Write as _;
+use std::alloc::Global;
 use std::process::Abort;
-use std::test::Fail;
 
 const ME: u32 = 0;
 
@@ -17,178 +16,135 @@ const HERE: u32 = 0;
 
 const NOWHERE: u32 = 16;
 
-/// Returns the fault of a step that is rejected with this error.
-fn is_of(
-    rt: &impl Abort,
-    heap: &ManagedHeap,
-    step: &Step,
-    answer: Result<(), Refusal>,
-    wanted: CallFault,
-) {
-    match answer {
-        Ok(()) => same(rt, wanted, CallFault::Null),
-        Err(refusal) => same(rt, CallFault::of_step(heap.heap(), step, refusal), wanted),
+/// A heap that returns the fault of a step.
+trait Faulty: Collect {
+    /// Returns the fault of a step that is rejected with this error.
+    fn fault_of(&self, step: &Step, refusal: Refusal) -> CallFault;
+
+    /// Returns whether a policy is in range.
+    fn check(&self, policy: Policy) -> Result<(), PolicyFault>;
+}
+
+impl Faulty for ManagedHeap {
+    fn fault_of(&self, step: &Step, refusal: Refusal) -> CallFault {
+        CallFault::of_step(self.heap(), step, refusal)
+    }
+
+    fn check(&self, policy: Policy) -> Result<(), PolicyFault> {
+        policy.check(self.heap().config())
     }
 }
 
 /// A store is rejected for the thread, the object's register, the source or the field.
 fn stores(
     rt: &impl Abort,
-    heap: &mut ManagedHeap,
+    heap: &mut impl Faulty,
     thread: u32,
-    object: u32,
-    field: u32,
-    source: u32,
+    numbers: [u32; 3],
     wanted: CallFault,
 ) {
-    let answer = store(heap, thread, object, field, source);
+    let [object, field, source] = numbers;
     let step = Step::Store {
         object,
         field,
         source,
     };
-    is_of(rt, heap, &step, answer, wanted);
-}
-
-/// A store by the trait.
-fn store(
-    heap: &mut impl Collect,
-    thread: u32,
-    object: u32,
-    field: u32,
-    source: u32,
-) -> Result<(), Refusal> {
-    heap.store(thread, object, field, source)
+    match heap.store(thread, object, field, source) {
+        Ok(()) => same(rt, wanted, CallFault::Null),
+        Err(refusal) => same(rt, heap.fault_of(&step, refusal), wanted),
+    }
 }
 
 /// Stores are rejected for each of their numbers.
-fn all_stores(rt: &impl Abort, alloc: Global, heap: &mut ManagedHeap) -> Result<(), Refusal> {
+fn all_stores(rt: &impl Abort, alloc: Global, heap: &mut impl Faulty) {
+    done(rt, heap.make(alloc, Policy::usual(16, 4), ME, HERE, 0));
     let register = CallFault::Wrong(Number::Register);
-    heap.make(alloc, Policy::usual(16, 4), ME, HERE, 0)?;
-    stores(rt, heap, 1, HERE, 0, HERE, CallFault::Wrong(Number::Thread));
-    stores(rt, heap, ME, NOWHERE, 0, HERE, register);
-    stores(rt, heap, ME, HERE, 0, NOWHERE, register);
-    stores(rt, heap, ME, HERE, 1, HERE, CallFault::Wrong(Number::Field));
-    stores(rt, heap, ME, 1, 0, HERE, CallFault::Null);
-    Ok(())
+    for (thread, numbers, wanted) in [
+        (1, [HERE, 0, HERE], CallFault::Wrong(Number::Thread)),
+        (ME, [NOWHERE, 0, HERE], register),
+        (ME, [HERE, 0, NOWHERE], register),
+        (ME, [HERE, 1, HERE], CallFault::Wrong(Number::Field)),
+        (ME, [1, 0, HERE], CallFault::Null),
+    ] {
+        stores(rt, heap, thread, numbers, wanted);
+    }
 }
 
 #[test]
-fn of_a_store(rt: HostRuntime) -> Result<(), Fail> {
-    let mut heap = new_heap(rt.alloc(), 4, 8)?;
-    let stored = all_stores(&rt, rt.alloc(), &mut heap);
-    drop(heap);
-    Ok(stored?)
+fn of_a_store(rt: HostRuntime) {
+    let mut heap = new_heap(&rt, rt.alloc(), 4, 8);
+    all_stores(&rt, rt.alloc(), &mut heap);
 }
 
 /// A step fails with `BadIndex` for this number.
-fn names(rt: &impl Abort, heap: &ManagedHeap, step: Step, wanted: Number) {
-    same(
-        rt,
-        CallFault::of_step(heap.heap(), &step, Refusal::BadIndex),
-        CallFault::Wrong(wanted),
-    );
+fn names(rt: &impl Abort, heap: &impl Faulty, step: Step, wanted: CallFault) {
+    same(rt, heap.fault_of(&step, Refusal::BadIndex), wanted);
 }
 
-#[test]
-fn of_each_step(rt: HostRuntime) -> Result<(), Fail> {
-    let heap = new_heap(rt.alloc(), 4, 8)?;
-    names(&rt, &heap, Step::Take(17), Number::Words);
-    names(
-        &rt,
-        &heap,
-        Step::New {
-            target: HERE,
-            layout: 1,
-        },
-        Number::Layout,
-    );
-    names(
-        &rt,
-        &heap,
-        Step::Load {
-            target: HERE,
-            object: NOWHERE,
-            field: 0,
-        },
-        Number::Register,
-    );
-    names(
-        &rt,
-        &heap,
-        Step::LoadGlobal {
-            target: HERE,
-            global: 64,
-        },
-        Number::Global,
-    );
-    names(
-        &rt,
-        &heap,
-        Step::Datum {
-            object: HERE,
-            index: 1,
-        },
-        Number::Datum,
-    );
-    names(&rt, &heap, Step::ClearReg(NOWHERE), Number::Register);
-    same(
-        &rt,
-        CallFault::of_step(heap.heap(), &Step::GiveBack, Refusal::BadIndex),
-        CallFault::Index,
-    );
-    drop(heap);
-    Ok(())
-}
-
-/// A policy is out of its range by this field, or in range.
-fn checks(
-    rt: &impl Abort,
-    heap: &ManagedHeap,
-    words: u32,
-    free: u32,
-    percent: u32,
-    wanted: Result<(), PolicyFault>,
-) {
-    let policy = Policy {
-        words,
-        free,
-        percent,
+fn all_steps(rt: &impl Abort, heap: &impl Faulty) {
+    let (target, layout, global, index) = (HERE, 1, 64, 1);
+    let new = Step::New { target, layout };
+    let load = Step::Load {
+        target,
+        object: NOWHERE,
+        field: 0,
     };
-    same(rt, policy.check(heap.heap().config()), wanted);
+    let loadg = Step::LoadGlobal { target, global };
+    let object = HERE;
+    let datum = Step::Datum { object, index };
+    let register = CallFault::Wrong(Number::Register);
+    names(rt, heap, Step::Take(17), CallFault::Wrong(Number::Words));
+    names(rt, heap, new, CallFault::Wrong(Number::Layout));
+    names(rt, heap, load, register);
+    names(rt, heap, loadg, CallFault::Wrong(Number::Global));
+    names(rt, heap, datum, CallFault::Wrong(Number::Datum));
+    names(rt, heap, Step::ClearReg(NOWHERE), register);
+    names(rt, heap, Step::GiveBack, CallFault::Index);
 }
 
 #[test]
-fn policies(rt: HostRuntime) -> Result<(), Fail> {
-    let heap = new_heap(rt.alloc(), 4, 8)?;
-    checks(&rt, &heap, 16, 4, 100, Ok(()));
-    checks(&rt, &heap, 1, 0, 0, Ok(()));
-    checks(&rt, &heap, 0, 5, 101, Err(PolicyFault::Words));
-    checks(&rt, &heap, 17, 0, 0, Err(PolicyFault::Words));
-    checks(&rt, &heap, 16, 5, 101, Err(PolicyFault::Free));
-    checks(&rt, &heap, 16, 4, 101, Err(PolicyFault::Percent));
-    drop(heap);
-    Ok(())
+fn of_each_step(rt: HostRuntime) {
+    let heap = new_heap(&rt, rt.alloc(), 4, 8);
+    all_steps(&rt, &heap);
 }
 
-/// A fault has this text.
-fn tells(rt: &impl Abort, alloc: Global, fault: CallFault, wanted: &str) -> Result<(), AllocError> {
-    let mut text = String::new(alloc);
-    write!(text, "{fault}")?;
-    same(rt, text.as_str(), wanted);
-    Ok(())
+/// Policies are out of their range by these fields, or in range.
+fn all_policies(rt: &impl Abort, heap: &impl Faulty) {
+    for (words, free, percent, wanted) in [
+        (16, 4, 100, Ok(())),
+        (1, 0, 0, Ok(())),
+        (0, 5, 101, Err(PolicyFault::Words)),
+        (17, 0, 0, Err(PolicyFault::Words)),
+        (16, 5, 101, Err(PolicyFault::Free)),
+        (16, 4, 101, Err(PolicyFault::Percent)),
+    ] {
+        let policy = Policy {
+            words,
+            free,
+            percent,
+        };
+        same(rt, heap.check(policy), wanted);
+    }
 }
 
 #[test]
-fn texts(rt: HostRuntime) -> Result<(), Fail> {
-    let alloc = rt.alloc();
-    let percent = CallFault::from(PolicyFault::Percent);
-    tells(&rt, alloc, percent, "percent out of range")?;
-    tells(
-        &rt,
-        alloc,
-        CallFault::Wrong(Number::Field),
-        "the object has no such reference",
-    )?;
-    Ok(())
+fn policies(rt: HostRuntime) {
+    let heap = new_heap(&rt, rt.alloc(), 4, 8);
+    all_policies(&rt, &heap);
+}
+
+#[test]
+fn texts(rt: HostRuntime) {
+    for (fault, wanted) in [
+        (
+            CallFault::from(PolicyFault::Percent),
+            "percent out of range",
+        ),
+        (
+            CallFault::Wrong(Number::Field),
+            "the object has no such reference",
+        ),
+    ] {
+        tells(&rt, rt.alloc(), fault, wanted);
+    }
 }

@@ -1,14 +1,12 @@
 //! What the parts of a collection prepare before pages are protected: frames, and sizes of objects.
 
 use crate::heaps::new_heap;
-use crate::same::same;
+use crate::same::{done, same};
 use collecting::{Collect, Parts, Policy};
 use heap::Heap;
 use managed::ManagedHeap;
-use model::Refusal;
 use std::alloc::Global;
 use std::process::Abort;
-use std::test::Fail;
 
 const ME: u32 = 0;
 
@@ -94,45 +92,40 @@ fn more(work: Work, before: [usize; 2], after: [usize; 2]) -> Work {
 
 /// Returns the work of a collection in parts with this budget.
 fn work_of(
+    rt: &impl Abort,
     alloc: Global,
     heap: &mut impl Framed,
     parts: &mut Parts,
     budget: u32,
-) -> Result<Work, Refusal> {
+) -> Work {
     let mut work = NOTHING;
     for _ in 0..10_000u32 {
         let before = frames_of(heap);
-        let ended = heap.collect_some(alloc, parts, 75, budget)?;
+        let has_ended = done(rt, heap.collect_some(alloc, parts, 75, budget));
         work = more(work, before, frames_of(heap));
-        if ended {
-            return Ok(work);
+        if has_ended {
+            return work;
         }
     }
-    Ok(NOTHING)
+    NOTHING
 }
 
 /// Allocates 200 objects, five on each of 40 pages; every second one is kept.
-fn fill(alloc: Global, heap: &mut impl Framed) -> Result<(), Refusal> {
+fn fill(rt: &impl Abort, alloc: Global, heap: &mut impl Framed) {
     for _ in 0..100 {
-        heap.make(alloc, POLICY, ME, NEW, 0)?;
-        heap.make(alloc, POLICY, ME, NEW, 0)?;
-        heap.store(ME, NEW, 0, HEAD)?;
-        heap.copy_register(ME, HEAD, NEW)?;
+        done(rt, heap.make(alloc, POLICY, ME, NEW, 0));
+        done(rt, heap.make(alloc, POLICY, ME, NEW, 0));
+        done(rt, heap.store(ME, NEW, 0, HEAD));
+        done(rt, heap.copy_register(ME, HEAD, NEW));
     }
-    heap.clear_register(ME, NEW)?;
-    heap.give_back(ME)
+    done(rt, heap.clear_register(ME, NEW));
+    done(rt, heap.give_back(ME));
 }
 
 /// The 300 live words take 19 pages, and one more for what stays free at their ends. So 20 frames are prepared, at
 /// most `most` by one part. Of 40 pages all but two are emptied, into 19 frames, none of which is allocated then.
-fn prepares(
-    rt: &impl Abort,
-    alloc: Global,
-    mut heap: impl Framed + Drop,
-    budget: u32,
-    most: usize,
-) -> Result<(), Fail> {
-    fill(alloc, &mut heap)?;
+fn prepares(rt: &impl Abort, alloc: Global, heap: &mut impl Framed, budget: u32, most: usize) {
+    fill(rt, alloc, heap);
     let mut parts = Parts::new(alloc);
     let wanted = Work {
         prepared: 20,
@@ -140,75 +133,60 @@ fn prepares(
         opened: 19,
         allocated: 0,
     };
-    same(
-        rt,
-        work_of(alloc, &mut heap, &mut parts, budget),
-        Ok(wanted),
-    );
-    Ok(())
+    same(rt, work_of(rt, alloc, heap, &mut parts, budget), wanted);
 }
 
 #[test]
-fn frames_are_prepared_by_budget(rt: HostRuntime) -> Result<(), Fail> {
+fn frames_are_prepared_by_budget(rt: HostRuntime) {
     for (budget, most) in [(0, 1), (1, 3), (4, 9), (1000, 20)] {
-        prepares(
-            &rt,
-            rt.alloc(),
-            new_heap(rt.alloc(), 64, 128)?,
-            budget,
-            most,
-        )?;
+        let mut heap = new_heap(&rt, rt.alloc(), 64, 128);
+        prepares(&rt, rt.alloc(), &mut heap, budget, most);
     }
-    Ok(())
 }
 
 /// Memory that is kept from an earlier collection isn't prepared again, nor for more frames than are free.
-fn prepares_once(
-    rt: &impl Abort,
-    alloc: Global,
-    mut heap: impl Framed + Drop,
-    wanted: usize,
-) -> Result<(), Fail> {
-    fill(alloc, &mut heap)?;
+fn prepares_once(rt: &impl Abort, alloc: Global, heap: &mut impl Framed, wanted: usize) {
+    fill(rt, alloc, heap);
     let mut parts = Parts::new(alloc);
-    let work = work_of(alloc, &mut heap, &mut parts, 1)?;
+    let work = work_of(rt, alloc, heap, &mut parts, 1);
     same(rt, (work.prepared, work.allocated), (wanted, 0));
-    heap.clear_register(ME, HEAD)?;
-    work_of(alloc, &mut heap, &mut parts, 1)?;
-    fill(alloc, &mut heap)?;
-    let again = work_of(alloc, &mut heap, &mut parts, 1)?;
+    done(rt, heap.clear_register(ME, HEAD));
+    work_of(rt, alloc, heap, &mut parts, 1);
+    fill(rt, alloc, heap);
+    let again = work_of(rt, alloc, heap, &mut parts, 1);
     same(rt, (again.prepared, again.allocated), (0, 0));
-    Ok(())
 }
 
 #[test]
-fn frames_are_prepared_once(rt: HostRuntime) -> Result<(), Fail> {
-    prepares_once(&rt, rt.alloc(), new_heap(rt.alloc(), 64, 256)?, 20)?;
-    prepares_once(&rt, rt.alloc(), new_heap(rt.alloc(), 46, 256)?, 6)
+fn frames_are_prepared_once(rt: HostRuntime) {
+    for (frames, prepared) in [(64, 20), (46, 6)] {
+        let mut heap = new_heap(&rt, rt.alloc(), frames, 256);
+        prepares_once(&rt, rt.alloc(), &mut heap, prepared);
+    }
 }
 
 /// Returns of how many pages sizes are kept at most, before each part of a collection.
-fn most_sized(alloc: Global, heap: &mut impl Framed) -> Result<usize, Refusal> {
+fn most_sized(rt: &impl Abort, alloc: Global, heap: &mut impl Framed) -> usize {
     let mut parts = Parts::new(alloc);
     let mut most = 0;
     for _ in 0..10_000u32 {
         most = most.max(heap.sized_pages());
-        if heap.collect_some(alloc, &mut parts, 75, 1)? {
-            return Ok(most);
+        if done(rt, heap.collect_some(alloc, &mut parts, 75, 1)) {
+            return most;
         }
     }
-    Ok(0)
+    0
 }
 
 /// All 40 pages are found, and the sizes of their objects are kept until the pages are protected.
-fn keeps_sizes(rt: &impl Abort, alloc: Global, mut heap: impl Framed + Drop) -> Result<(), Fail> {
-    fill(alloc, &mut heap)?;
+fn keeps_sizes(rt: &impl Abort, alloc: Global, heap: &mut impl Framed) {
+    fill(rt, alloc, heap);
     same(rt, heap.sized_pages(), 0);
-    same(rt, most_sized(alloc, &mut heap), Ok(40));
-    Ok(())
+    same(rt, most_sized(rt, alloc, heap), 40);
 }
 
 #[test]
-fn sizes_are_kept_of_found_pages(rt: HostRuntime) -> Result<(), Fail> {
-    keeps_sizes(&rt, rt.alloc(), new_heap(rt.alloc(), 64, 128)?)
+fn sizes_are_kept_of_found_pages(rt: HostRuntime) {
+    let mut heap = new_heap(&rt, rt.alloc(), 64, 128);
+    keeps_sizes(&rt, rt.alloc(), &mut heap);
 }
