@@ -1,15 +1,13 @@
 //! A cycle empties the pages that it chooses, and releases their frames.
 
 use crate::recorder::Recorder;
-use crate::rows::HeldSettled;
-use crate::same::same;
+use crate::rows::book_of;
+use crate::same::{done, same};
 use cycle::{Actor, Answer, History, Step};
 use parser::parse;
-use script_threads::by_threads;
-use std::alloc::{AllocError, Global};
+use std::alloc::Global;
 use std::process::Abort;
 use std::sync::Wait;
-use std::test::Fail;
 use std::thread::Threads;
 
 /// Two pages of five objects, one of which is live on each: 3 words of 16.
@@ -31,7 +29,7 @@ const BOTH: [Answer; 5] = [
 ];
 
 /// Returns the answers of worker 0 to steps that move objects.
-fn moves(alloc: Global, history: &History) -> Result<Vec<Answer>, AllocError> {
+fn moves(rt: &impl Abort, alloc: Global, history: &History) -> Vec<Answer> {
     let mut answers = Vec::new(alloc);
     for index in 0..history.len() {
         if let Some(found) = history.get(index) {
@@ -43,48 +41,33 @@ fn moves(alloc: Global, history: &History) -> Result<Vec<Answer>, AllocError> {
                     Step::Protect(_) | Step::CopyPage(_) | Step::Release(_)
                 )
             ) {
-                answers.push(entry.answer)?;
+                done(rt, answers.push(entry.answer));
             }
         }
     }
-    Ok(answers)
+    answers
 }
 
-/// Returns what a run has moved, and how many frames are free in the end.
-fn moved(
-    rt: &impl Abort,
-    alloc: Global,
-    held: impl HeldSettled + Drop,
-    answers: &[Answer],
-    free: u32,
-) -> Result<(), AllocError> {
-    let book = &held.settled().book;
-    let found = moves(alloc, book.history())?;
-    same(rt, found.as_slice(), answers);
-    same(rt, book.heap().memory().free_frames(), free);
-    Ok(())
-}
-
-/// A cycle that empties pages of which at most `percent` words of a hundred are live.
+/// A cycle that empties pages of which at most `percent` words of a hundred are live. Compares what it has moved, and
+/// how many frames are free in the end.
 fn cycle<R: Abort + Threads + Wait + Sync>(
     rt: &R,
     alloc: Global,
     percent: u32,
     answers: &[Answer],
     free: u32,
-) -> Result<(), Fail> {
-    let text = format!(in alloc; "{PAGES}{percent}\n")?;
-    let script = parse(alloc, text.as_str().as_bytes())?;
-    let recorder = Recorder::new(alloc, 1)?;
-    match by_threads(rt, alloc, &script, &recorder) {
-        Ok(settled) => moved(rt, alloc, settled, answers, free)?,
-        Err(_) => return Err("it isn't settled".into()),
-    }
-    Ok(())
+) {
+    let text = done(rt, format!(in alloc; "{PAGES}{percent}\n"));
+    let script = done(rt, parse(alloc, text.as_str().as_bytes()));
+    let recorder = done(rt, Recorder::new(alloc, 1));
+    let book = book_of(rt, alloc, &script, &recorder);
+    let found = moves(rt, alloc, book.history());
+    same(rt, found.as_slice(), answers);
+    same(rt, book.heap().memory().free_frames(), free);
 }
 
 #[test]
-fn pages_are_emptied(rt: HostRuntime) -> Result<(), Fail> {
-    cycle(&rt, rt.alloc(), 19, &BOTH, 3)?;
-    cycle(&rt, rt.alloc(), 18, &[], 2)
+fn pages_are_emptied(rt: HostRuntime) {
+    cycle(&rt, rt.alloc(), 19, &BOTH, 3);
+    cycle(&rt, rt.alloc(), 18, &[], 2);
 }

@@ -1,16 +1,12 @@
 //! Two actors that run in parallel: a gate holds each until the other has come to a step.
 
-use crate::rows::HeldSettled;
-use crate::same::same;
-use cycle::{Actor, Answer, Entry, History, Step};
-use parser::{Script, parse};
-use script_threads::{Gate, by_threads};
-use std::alloc::Global;
-use std::sync::Wait;
+use crate::rows::book_of;
+use crate::same::{done, same};
+use cycle::{Actor, Answer, History, Step};
+use parser::parse;
+use script_threads::Gate;
 use std::sync::atomic::{AtomicU64, Ordering};
-use std::test::Fail;
 use std::thread;
-use std::thread::Threads;
 
 const SCRIPT: &str =
     "heap words 16 frames 1 pages 1 threads 2 workers 1 registers 2 globals 1\nlayout 1 1\nt0 take 16\n\
@@ -62,59 +58,29 @@ impl Gate for Meeting {
     }
 }
 
-/// Returns the answer of an entry, if its step is `Heal`.
-fn answer_of(entry: &Entry) -> Option<Answer> {
-    if matches!(entry.step, Step::Heal) {
-        Some(entry.answer)
-    } else {
-        None
-    }
-}
-
-/// Returns the answer of the entry of a number, if its step is `Heal`.
-fn answer_at(history: &History, index: usize) -> Option<Answer> {
-    match history.get(index) {
-        Some(found) => answer_of(found.entry()),
-        None => None,
-    }
-}
-
 /// Returns the answer to the first `Heal` of a history.
 fn healed(history: &History) -> Option<Answer> {
     for index in 0..history.len() {
-        if let Some(answer) = answer_at(history, index) {
-            return Some(answer);
+        if let Some(found) = history.get(index) {
+            let entry = found.entry();
+            if matches!(entry.step, Step::Heal) {
+                return Some(entry.answer);
+            }
         }
     }
     None
 }
 
-/// Returns the answer to the first `Heal` of a run that is settled.
-fn healed_of(held: impl HeldSettled + Drop) -> Option<Answer> {
-    healed(held.settled().book.history())
-}
-
-/// Returns the answer to the first `Heal` of a run. `None` if it isn't settled.
-fn answered<R: Threads + Wait + Sync, G: Gate + Sync>(
-    rt: &R,
-    alloc: Global,
-    script: &Script,
-    gate: &G,
-) -> Option<Answer> {
-    healed_of(by_threads(rt, alloc, script, gate).ok()?)
-}
-
 #[test]
-fn two_at_once(rt: HostRuntime) -> Result<(), Fail> {
-    let script = parse(rt.alloc(), SCRIPT.as_bytes())?;
+fn two_at_once(rt: HostRuntime) {
+    let script = done(&rt, parse(rt.alloc(), SCRIPT.as_bytes()));
     let meeting = Meeting {
         published: AtomicU64::new(0),
         before_heal: AtomicU64::new(0),
         stored: AtomicU64::new(0),
         given_up: AtomicU64::new(0),
     };
-    let answer = answered(&rt, rt.alloc(), &script, &meeting);
+    let book = book_of(&rt, rt.alloc(), &script, &meeting);
     same(&rt, meeting.given_up.load(Ordering::SeqCst), 0);
-    same(&rt, answer, Some(Answer::Changed));
-    Ok(())
+    same(&rt, healed(book.history()), Some(Answer::Changed));
 }

@@ -1,14 +1,12 @@
 //! A full history stops each actor before its next step, also inside a load.
 
 use crate::recorder::reaches;
-use crate::rows::HeldSettled;
-use crate::same::same;
+use crate::rows::book_of;
+use crate::same::{done, same};
 use cycle::{Actor, Step};
 use parser::parse;
-use script_threads::{Gate, by_threads};
-use std::process::Abort;
+use script_threads::Gate;
 use std::sync::atomic::{AtomicU64, Ordering};
-use std::test::Fail;
 
 /// Thread 0 loads; thread 1 fills the history meanwhile, and then a step of it is rejected.
 const SCRIPT: &str =
@@ -59,25 +57,18 @@ impl Gate for Meeting {
 }
 
 /// The history is full, no further step was begun, and no wait was given up.
-fn stopped(rt: &impl Abort, meeting: &Meeting, held: impl HeldSettled + Drop) {
-    same(rt, held.settled().book.history().len(), 6);
-    same(rt, meeting.asked.load(Ordering::SeqCst), 4);
-    same(rt, meeting.traps.load(Ordering::SeqCst), 0);
-    same(rt, meeting.given_up.load(Ordering::SeqCst), 0);
-}
-
 #[test]
-fn inside_a_load(rt: HostRuntime) -> Result<(), Fail> {
-    let script = parse(rt.alloc(), SCRIPT.as_bytes())?;
+fn inside_a_load(rt: HostRuntime) {
+    let script = done(&rt, parse(rt.alloc(), SCRIPT.as_bytes()));
     let meeting = Meeting {
         begun: AtomicU64::new(0),
         asked: AtomicU64::new(0),
         traps: AtomicU64::new(0),
         given_up: AtomicU64::new(0),
     };
-    match by_threads(&rt, rt.alloc(), &script, &meeting) {
-        Ok(settled) => stopped(&rt, &meeting, settled),
-        Err(_) => return Err("it isn't settled".into()),
-    }
-    Ok(())
+    let book = book_of(&rt, rt.alloc(), &script, &meeting);
+    same(&rt, book.history().len(), 6);
+    same(&rt, meeting.asked.load(Ordering::SeqCst), 4);
+    same(&rt, meeting.traps.load(Ordering::SeqCst), 0);
+    same(&rt, meeting.given_up.load(Ordering::SeqCst), 0);
 }

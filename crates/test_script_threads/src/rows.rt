@@ -1,12 +1,13 @@
 //! Two threads that link and read back objects while a worker does three cycles, many times.
 
+use crate::same::{done, same};
+use cycle::Book;
 use parser::{Script, parse};
-use script_threads::{OpenGate, ThreadsFault, by_threads, tell_threads};
+use script_threads::{Gate, OpenGate, ThreadsFault, by_threads, tell_threads};
 use sharing::Settled;
 use std::alloc::Global;
 use std::process::Abort;
 use std::sync::Wait;
-use std::test::Fail;
 use std::thread::Threads;
 
 /// Three cycles.
@@ -25,22 +26,22 @@ const ROLLING: &str =
 
 pub const OUTPUT: &str = "thread 0 births 100 data 100\nthread 1 births 100 data 100\nsettled\n";
 
-/// A settled run. Tests pass theirs as one, since a proof with a `Settled` that lives over several calls takes long.
-pub trait HeldSettled {
-    /// Borrows the recorded heap and the seats of the run.
-    fn settled(&self) -> &Settled;
-}
-
-impl HeldSettled for Settled {
-    fn settled(&self) -> &Settled {
-        self
-    }
+/// Returns the recorded heap of a run by threads, which has to be settled.
+pub fn book_of<R: Abort + Threads + Wait + Sync, G: Gate + Sync>(
+    rt: &R,
+    alloc: Global,
+    script: &Script,
+    gate: &G,
+) -> Book {
+    let Settled { book, seats } = done(rt, by_threads(rt, alloc, script, gate));
+    drop(seats);
+    book
 }
 
 /// Returns what is printed for a settled run.
-fn printed(alloc: Global, held: impl HeldSettled + Drop) -> Option<Vec<u8>> {
+fn printed(alloc: Global, settled: &Settled) -> Option<Vec<u8>> {
     let mut output = Vec::new(alloc);
-    match tell_threads(held.settled(), &mut output) {
+    match tell_threads(settled, &mut output) {
         Ok(()) => Some(output),
         Err(_) => None,
     }
@@ -52,29 +53,25 @@ pub fn raced<R: Threads + Wait + Sync>(
     alloc: Global,
     script: &Script,
 ) -> Result<Option<Vec<u8>>, ThreadsFault> {
-    Ok(printed(alloc, by_threads(rt, alloc, script, &OpenGate)?))
+    let settled = by_threads(rt, alloc, script, &OpenGate)?;
+    Ok(printed(alloc, &settled))
 }
 
 /// Runs a script fifty times: it prints the same each time.
-fn settles<R: Abort + Threads + Wait + Sync>(rt: &R, alloc: Global, script: &Script) {
+fn settles<R: Abort + Threads + Wait + Sync>(rt: &R, alloc: Global, text: &str) {
+    let script = done(rt, parse(alloc, text.as_bytes()));
     for _ in 0..50u32 {
-        match raced(rt, alloc, script) {
-            Ok(Some(output)) => assert_eq!(rt; output.as_slice(), OUTPUT.as_bytes()),
-            _ => assert!(rt; false, "it isn't settled"),
-        }
+        let output = done(rt, raced(rt, alloc, &script));
+        same(rt, output.as_deref(), Some(OUTPUT.as_bytes()));
     }
 }
 
 #[test]
-fn three_cycles(rt: HostRuntime) -> Result<(), Fail> {
-    let script = parse(rt.alloc(), SCRIPT.as_bytes())?;
-    settles(&rt, rt.alloc(), &script);
-    Ok(())
+fn three_cycles(rt: HostRuntime) {
+    settles(&rt, rt.alloc(), SCRIPT);
 }
 
 #[test]
-fn three_rolls(rt: HostRuntime) -> Result<(), Fail> {
-    let script = parse(rt.alloc(), ROLLING.as_bytes())?;
-    settles(&rt, rt.alloc(), &script);
-    Ok(())
+fn three_rolls(rt: HostRuntime) {
+    settles(&rt, rt.alloc(), ROLLING);
 }

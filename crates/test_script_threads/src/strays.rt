@@ -1,26 +1,19 @@
 //! Seats of one recorded heap, settled with another.
 
-use crate::same::same;
+use crate::same::{done, same};
 use cycle::{Actor, Answer, Book, Step};
 use script_threads::tell_stray;
 use sharing::{Seat, Settled, Shared, settle};
-use std::alloc::{AllocError, Global};
+use std::alloc::Global;
 use std::process::Abort;
 use std::sync::Wait;
-use std::test::Fail;
 use test_support_samples::shared_by_two;
 
-/// Shares a recorded heap, with its seats.
-fn open(alloc: Global, book: Book) -> Result<(Shared, Vec<Seat>), AllocError> {
-    Shared::open(alloc, book).ok().ok_or(AllocError)
-}
-
-/// Returns a new recorded heap.
-fn new_book(alloc: Global) -> Result<Book, Fail> {
-    match Book::new(alloc, shared_by_two(alloc)?) {
-        Ok(book) => Ok(book),
-        Err(_) => Err(Fail::from(AllocError)),
-    }
+/// Shares a new recorded heap, with its seats.
+fn open(rt: &impl Abort, alloc: Global) -> (Shared, Vec<Seat>) {
+    let config = done(rt, shared_by_two(alloc));
+    let book = done(rt, Book::new(alloc, config));
+    done(rt, Shared::open(alloc, book).ok().ok_or("not shared"))
 }
 
 /// The first thread of a shared recorded heap takes a page.
@@ -30,7 +23,7 @@ fn take(rt: &(impl Abort + Wait), shared: &Shared, seats: &mut [Seat]) {
             let reply = shared.step(rt, seat, Step::Take(16));
             same(rt, reply, Ok(Answer::Lent { page: 1, offset: 0 }));
         }
-        None => assert!(rt; false, "there is no seat"),
+        None => same(rt, "there is no seat", ""),
     }
 }
 
@@ -68,19 +61,12 @@ fn stray_with(
     }
 }
 
-/// Returns the seats of a new recorded heap, which were settled with it.
-fn seats_of_new(alloc: Global) -> Result<Option<Vec<Seat>>, Fail> {
-    let book = new_book(alloc)?;
-    let (shared, seats) = open(alloc, book)?;
-    Ok(settled(shared, seats))
-}
-
-/// Returns the stray of a new recorded heap with the seats of another one.
-fn stray(rt: &(impl Abort + Wait), alloc: Global) -> Result<Option<Actor>, Fail> {
-    let others = seats_of_new(alloc)?;
-    let book = new_book(alloc)?;
-    let (shared, seats) = open(alloc, book)?;
-    Ok(stray_with(rt, shared, seats, others))
+/// Returns the stray of a new recorded heap with the seats of another one, which were settled with that.
+fn stray(rt: &(impl Abort + Wait), alloc: Global) -> Option<Actor> {
+    let (other, seats) = open(rt, alloc);
+    let others = settled(other, seats);
+    let (shared, seats) = open(rt, alloc);
+    stray_with(rt, shared, seats, others)
 }
 
 /// A stray actor has this line.
@@ -91,9 +77,8 @@ fn is_told(rt: &impl Abort, alloc: Global, actor: Actor, line: &str) {
 }
 
 #[test]
-fn seats_of_another_book(rt: HostRuntime) -> Result<(), Fail> {
+fn seats_of_another_book(rt: HostRuntime) {
     let actor = Actor::Thread(0);
-    same(&rt, stray(&rt, rt.alloc())?, Some(actor));
+    same(&rt, stray(&rt, rt.alloc()), Some(actor));
     is_told(&rt, rt.alloc(), actor, "stray t0\n");
-    Ok(())
 }

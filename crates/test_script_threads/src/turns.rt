@@ -1,10 +1,9 @@
 //! Hints are taken oldest first, and from the deque of a steal's worker.
 
-use crate::same::{same, same_at};
+use crate::same::{done, same, same_at};
 use crate::taking::{pop, push, steal};
 use hints::{HintSeat, Hints};
 use std::process::Abort;
-use std::test::Fail;
 
 /// How many hints there are: more than a deque's first slots.
 const COUNT: u64 = 200;
@@ -42,17 +41,16 @@ fn is_over(rt: &impl Abort, owner: &mut HintSeat, thief: &mut HintSeat) {
 }
 
 #[test]
-fn oldest_first(rt: HostRuntime) -> Result<(), Fail> {
-    let mut seats = Hints::new(rt.alloc(), 2)?;
+fn oldest_first(rt: HostRuntime) {
+    let mut seats = done(&rt, Hints::new(rt.alloc(), 2));
     match seats.as_mut_slice() {
         [owner, thief, ..] => {
             push_all(&rt, owner);
             take_all(&rt, owner, thief);
             is_over(&rt, owner, thief);
         }
-        _ => assert!(rt; false, "there are two seats"),
+        _ => same(&rt, "there are two seats", ""),
     }
-    Ok(())
 }
 
 /// Each of three seats pushes a number of its own.
@@ -81,9 +79,8 @@ fn steal_each(rt: &impl Abort, seats: &mut [HintSeat], from: [u32; 3]) {
 }
 
 #[test]
-fn from_whom_is_named(rt: HostRuntime) -> Result<(), Fail> {
-    let mut seats = Hints::new(rt.alloc(), 3)?;
+fn from_whom_is_named(rt: HostRuntime) {
+    let mut seats = done(&rt, Hints::new(rt.alloc(), 3));
     same(&rt, seats.len(), 3);
     steal_crosswise(&rt, seats.as_mut_slice());
-    Ok(())
 }

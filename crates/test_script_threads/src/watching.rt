@@ -1,15 +1,13 @@
 //! The calls of a gate that watches: the steps of the history, one after another.
 
 use crate::recorder::{Recorder, step_number};
-use crate::rows::HeldSettled;
-use crate::same::same;
-use cycle::{Actor, History, Step};
-use parser::{Script, parse};
-use script_threads::by_threads;
-use std::alloc::{AllocError, Global};
+use crate::rows::book_of;
+use crate::same::{done, same};
+use cycle::{Actor, Book, History, Step};
+use parser::parse;
+use std::alloc::Global;
 use std::process::Abort;
 use std::sync::Wait;
-use std::test::Fail;
 use std::thread::Threads;
 
 /// A list of four objects in a global, which is marked once the thread has parked.
@@ -25,17 +23,17 @@ const TWICE: &str =
     t0 storeg 1 r1\nt0 clear r0\nt0 clear r1\nw0 cycle 0\n";
 
 /// Returns the steps of an actor in a history, as numbers.
-fn entered(alloc: Global, history: &History, actor: Actor) -> Result<Vec<u64>, AllocError> {
+fn entered(rt: &impl Abort, alloc: Global, history: &History, actor: Actor) -> Vec<u64> {
     let mut steps = Vec::new(alloc);
     for index in 0..history.len() {
         if let Some(found) = history.get(index) {
             let entry = found.entry();
             if entry.actor == actor {
-                steps.push(step_number(&entry.step))?;
+                done(rt, steps.push(step_number(&entry.step)));
             }
         }
     }
-    Ok(steps)
+    steps
 }
 
 /// Returns how often a step is in a list.
@@ -58,69 +56,38 @@ fn watched(
     history: &History,
     actor: Actor,
     count: usize,
-) -> Result<(), AllocError> {
-    let wanted = entered(alloc, history, actor)?;
-    let found = recorder.steps(alloc, actor)?;
+) {
+    let wanted = entered(rt, alloc, history, actor);
+    let found = done(rt, recorder.steps(alloc, actor));
     same(rt, wanted.len(), count);
     same(rt, found.as_deref(), Some(wanted.as_slice()));
-    Ok(())
+}
+
+/// Runs a script. Returns the recorded heap, and the calls of its gate.
+fn run<R: Abort + Threads + Wait + Sync>(rt: &R, alloc: Global, text: &str) -> (Book, Recorder) {
+    let script = done(rt, parse(alloc, text.as_bytes()));
+    let recorder = done(rt, Recorder::new(alloc, 1));
+    (book_of(rt, alloc, &script, &recorder), recorder)
 }
 
 /// The gate of the list was called for each step of the history, and no other.
-fn all_watched(
-    rt: &impl Abort,
-    alloc: Global,
-    recorder: &Recorder,
-    held: impl HeldSettled + Drop,
-) -> Result<(), AllocError> {
-    let history = held.settled().book.history();
-    watched(rt, alloc, recorder, history, Actor::Thread(0), 18)?;
-    watched(rt, alloc, recorder, history, Actor::Worker(0), 16)
+#[test]
+fn each_step_is_watched(rt: HostRuntime) {
+    let (book, recorder) = run(&rt, rt.alloc(), LIST);
+    for (actor, count) in [(Actor::Thread(0), 18), (Actor::Worker(0), 16)] {
+        watched(&rt, rt.alloc(), &recorder, book.history(), actor, count);
+    }
 }
 
 /// An object with two hints is scanned once, and a second pick of it fails.
-fn picked_in_vain(
-    rt: &impl Abort,
-    alloc: Global,
-    recorder: &Recorder,
-    held: impl HeldSettled + Drop,
-) -> Result<(), AllocError> {
+#[test]
+fn a_hint_is_passed_over(rt: HostRuntime) {
+    let (book, recorder) = run(&rt, rt.alloc(), TWICE);
     let worker = Actor::Worker(0);
     let pick = Step::Pick { page: 1, offset: 0 };
-    let entered = entered(alloc, held.settled().book.history(), worker)?;
-    let found = recorder.steps(alloc, worker)?;
-    same(rt, count_of(entered.as_slice(), &pick), 1);
-    same(
-        rt,
-        found.map(|steps| count_of(steps.as_slice(), &pick)),
-        Some(2),
-    );
-    Ok(())
-}
-
-/// Returns a parsed script.
-fn script_of(alloc: Global, text: &str) -> Result<Script, Fail> {
-    Ok(parse(alloc, text.as_bytes())?)
-}
-
-#[test]
-fn each_step_is_watched(rt: HostRuntime) -> Result<(), Fail> {
-    let script = script_of(rt.alloc(), LIST)?;
-    let recorder = Recorder::new(rt.alloc(), 1)?;
-    match by_threads(&rt, rt.alloc(), &script, &recorder) {
-        Ok(settled) => all_watched(&rt, rt.alloc(), &recorder, settled)?,
-        Err(_) => return Err("it isn't settled".into()),
-    }
-    Ok(())
-}
-
-#[test]
-fn a_hint_is_passed_over(rt: HostRuntime) -> Result<(), Fail> {
-    let script = script_of(rt.alloc(), TWICE)?;
-    let recorder = Recorder::new(rt.alloc(), 1)?;
-    match by_threads(&rt, rt.alloc(), &script, &recorder) {
-        Ok(settled) => picked_in_vain(&rt, rt.alloc(), &recorder, settled)?,
-        Err(_) => return Err("it isn't settled".into()),
-    }
-    Ok(())
+    let entered = entered(&rt, rt.alloc(), book.history(), worker);
+    let found = done(&rt, recorder.steps(rt.alloc(), worker));
+    same(&rt, count_of(entered.as_slice(), &pick), 1);
+    let found = found.map(|steps| count_of(steps.as_slice(), &pick));
+    same(&rt, found, Some(2));
 }
