@@ -1,7 +1,8 @@
 #!/bin/sh
 # Runs tests of calls that allocate with each of their memory requests refused in turn, one a run.
 # Such a test has to end with the error that the call returned: out of memory, or a failed write if
-# the destination is a list in memory. The first run in which no request is refused is the last. The
+# the destination is a list in memory. The first run in which no request is refused is the last.
+# A mark on threads is also run with each start of a thread refused, which changes nothing. The
 # first argument is the folder of the crates whose tests are built: where 'rt ci' built them, or the
 # repository's own.
 
@@ -62,5 +63,13 @@ for named in \
     test=${named#*:}
     refuse_each "$test" "$crates/$crate/out/${crate}_tests" "$test"
 done
+
+# A mark on threads starts some, and ends without each of them.
+told() {
+    false
+}
+
+test=waving::four_threads_mark_as_one
+refuse_in_turn REFUSE_START "$test" "$crates/test_heap/out/test_heap_tests" "$test"
 echo "$passed passed, $failed failed"
 [ "$failed" = 0 ]
