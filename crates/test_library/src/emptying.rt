@@ -25,8 +25,8 @@ impl Emptying for ManagedHeap {
 
 /// All is emptied. If the call is out of memory, the heap is as it was, and all is done when it is repeated; the test
 /// then fails as out of memory.
-fn empties(rt: &impl Abort, alloc: Global, mut heap: impl Emptying + Drop) -> Result<(), Fail> {
-    fill_and_close(&mut heap)??;
+fn empties(rt: &impl Abort, alloc: Global, heap: &mut impl Emptying) -> Result<(), Fail> {
+    fill_and_close(heap)??;
     let before = heap.text(alloc)?;
     let end = heap.empty(alloc)?;
     if end == Err(Refusal::Memory) {
@@ -43,7 +43,8 @@ fn empties(rt: &impl Abort, alloc: Global, mut heap: impl Emptying + Drop) -> Re
 
 #[test]
 fn pages_are_emptied(rt: HostRuntime) -> Result<(), Fail> {
-    empties(&rt, rt.alloc(), new_managed(rt.alloc())?)
+    let mut heap = new_managed(rt.alloc())?;
+    empties(&rt, rt.alloc(), &mut heap)
 }
 
 /// Makes a heap, and again if that was out of memory, which the second value tells.
@@ -55,16 +56,16 @@ fn made(alloc: Global) -> Result<(ManagedHeap, bool), Fail> {
 }
 
 /// A heap works.
-fn works(rt: &impl Abort, mut heap: impl Moving + Drop) -> Result<(), Refusal> {
-    fill_and_close(&mut heap)??;
+fn works(rt: &impl Abort, heap: &mut impl Moving) -> Result<(), Refusal> {
+    fill_and_close(heap)??;
     same(rt, heap.progress(), (Phase::Idle, true, 0));
     Ok(())
 }
 
 #[test]
 fn a_heap_is_made(rt: HostRuntime) -> Result<(), Fail> {
-    let (heap, lacked) = made(rt.alloc())?;
-    works(&rt, heap)?;
+    let (mut heap, lacked) = made(rt.alloc())?;
+    works(&rt, &mut heap)?;
     if lacked {
         Err(Fail::from(AllocError))
     } else {
@@ -73,8 +74,8 @@ fn a_heap_is_made(rt: HostRuntime) -> Result<(), Fail> {
 }
 
 /// Verifies a heap, and again if that was out of memory.
-fn looks(rt: &impl Abort, alloc: Global, mut heap: impl Moving + Drop) -> Result<(), Fail> {
-    fill_and_close(&mut heap)??;
+fn looks(rt: &impl Abort, alloc: Global, heap: &mut impl Moving) -> Result<(), Fail> {
+    fill_and_close(heap)??;
     let first = heap.verdict(alloc);
     same(rt, heap.verdict(alloc)?, Verdict::Sound);
     same(rt, first?, Verdict::Sound);
@@ -83,5 +84,6 @@ fn looks(rt: &impl Abort, alloc: Global, mut heap: impl Moving + Drop) -> Result
 
 #[test]
 fn a_heap_is_verified(rt: HostRuntime) -> Result<(), Fail> {
-    looks(&rt, rt.alloc(), new_managed(rt.alloc())?)
+    let mut heap = new_managed(rt.alloc())?;
+    looks(&rt, rt.alloc(), &mut heap)
 }

@@ -1,14 +1,12 @@
 //! The calls of a portion, with numbers that all differ.
 
 use crate::numbers::new_heap;
-use crate::same::same;
+use crate::same::{done, same};
 use collecting::Policy;
 use managed::FieldLoad;
-use model::Refusal;
 use portions::Mutator;
 use std::alloc::Global;
 use std::process::Abort;
-use std::test::Fail;
 use typed::{Datum, Field, GlobalNumber, LayoutNumber, Register};
 use typed_portions::PortionCalls;
 
@@ -37,77 +35,69 @@ const POLICY: Policy = Policy {
 };
 
 /// References are loaded from their places.
-fn references(rt: &impl Abort, mutator: &mut impl PortionCalls) -> Result<(), Refusal> {
-    mutator.read(READ, SECOND, LAST)?;
+fn references(rt: &impl Abort, mutator: &mut impl PortionCalls) {
+    done(rt, mutator.read(READ, SECOND, LAST));
     same(rt, mutator.same(READ, FIRST), Ok(true));
-    mutator.store(FIRST, LAST, SECOND)?;
+    done(rt, mutator.store(FIRST, LAST, SECOND));
     let fields = [FieldLoad {
         target: READ.0,
         field: LAST.0,
     }];
     same(rt, mutator.loads(FIRST, &fields), Ok(()));
     same(rt, mutator.same(READ, SECOND), Ok(true));
-    mutator.store_global(ROOT, FIRST)?;
-    mutator.read_global(READ, ROOT)?;
+    done(rt, mutator.store_global(ROOT, FIRST));
+    done(rt, mutator.read_global(READ, ROOT));
     same(rt, mutator.same(READ, FIRST), Ok(true));
-    same(rt, mutator.object(READ)?.layout, PAIRS.0);
-    mutator.copy_register(READ, SECOND)?;
+    same(rt, done(rt, mutator.object(READ)).layout, PAIRS.0);
+    done(rt, mutator.copy_register(READ, SECOND));
     same(rt, mutator.same(READ, SECOND), Ok(true));
-    mutator.clear_register(READ)?;
+    done(rt, mutator.clear_register(READ));
     same(rt, mutator.is_null(READ), Ok(true));
-    Ok(())
 }
 
 /// Data words are read from their places.
-fn words(rt: &impl Abort, mutator: &mut impl PortionCalls) -> Result<(), Refusal> {
-    mutator.set_datum(FIRST, WORD, 7)?;
+fn words(rt: &impl Abort, mutator: &mut impl PortionCalls) {
+    done(rt, mutator.set_datum(FIRST, WORD, 7));
     same(rt, mutator.datum(FIRST, WORD), Ok(7));
-    mutator.set_many(SECOND, Datum(2), &[8, 9])?;
+    done(rt, mutator.set_many(SECOND, Datum(2), &[8, 9]));
     let mut values = [0; 2];
-    mutator.get_many(SECOND, Datum(1), &mut values)?;
+    done(rt, mutator.get_many(SECOND, Datum(1), &mut values));
     same(rt, values[0], 2);
     same(rt, values[1], 8);
-    Ok(())
 }
 
-fn all(
-    rt: &impl Abort,
-    alloc: Global,
-    mut mutator: impl PortionCalls + Drop,
-) -> Result<(), Refusal> {
-    mutator.make(alloc, POLICY, FIRST, PAIRS)?;
-    mutator.make_with(alloc, POLICY, SECOND, PAIRS, &[3, 2], &[1, 2])?;
-    references(rt, &mut mutator)?;
-    words(rt, &mut mutator)?;
-    same(rt, mutator.collect(alloc, 75)?.live, 2);
-    mutator.give_back()?;
-    mutator.take(10)?;
+fn all(rt: &impl Abort, alloc: Global, mutator: &mut impl PortionCalls) {
+    done(rt, mutator.make(alloc, POLICY, FIRST, PAIRS));
+    done(
+        rt,
+        mutator.make_with(alloc, POLICY, SECOND, PAIRS, &[3, 2], &[1, 2]),
+    );
+    references(rt, mutator);
+    words(rt, mutator);
+    same(rt, done(rt, mutator.collect(alloc, 75)).live, 2);
+    done(rt, mutator.give_back());
+    done(rt, mutator.take(10));
     same(rt, mutator.new_object(READ, PAIRS), Ok(2));
-    mutator.refill(alloc, POLICY)?;
+    done(rt, mutator.refill(alloc, POLICY));
     same(rt, mutator.new_object(READ, PAIRS), Ok(3));
-    Ok(())
 }
 
 /// A mutator in a portion of the last thread.
-fn new_mutator(alloc: Global) -> Result<Mutator, Fail> {
-    let heap = new_heap(alloc)?.into_managed();
+fn new_mutator(rt: &impl Abort, alloc: Global) -> Mutator {
+    let heap = new_heap(rt, alloc).into_managed();
     let (mut mutator, seats) = match Mutator::open(alloc, heap) {
         Ok(opened) => opened,
-        Err(fault) => {
-            let refusal = fault.refusal;
-            drop(fault);
-            return Err(refusal.into());
-        }
+        Err(fault) => panic!(rt; "error: {:?}", fault.refusal),
     };
     for seat in seats.threads {
         let mut seat = seat;
         mutator.enter(&mut seat);
     }
-    Ok(mutator)
+    mutator
 }
 
 #[test]
-fn each_call_of_a_portion_takes_its_numbers(rt: HostRuntime) -> Result<(), Fail> {
-    all(&rt, rt.alloc(), new_mutator(rt.alloc())?)?;
-    Ok(())
+fn each_call_of_a_portion_takes_its_numbers(rt: HostRuntime) {
+    let mut mutator = new_mutator(&rt, rt.alloc());
+    all(&rt, rt.alloc(), &mut mutator);
 }

@@ -1,13 +1,12 @@
 //! Each call with numbers that all differ: a call that swaps two of them fails or has another result.
 
-use crate::same::same;
+use crate::same::{done, same};
 use heap::Config;
 use layout::{Layout, Layouts};
 use managed::FieldLoad;
 use model::Refusal;
 use std::alloc::Global;
 use std::process::Abort;
-use std::test::Fail;
 use typed::{Datum, Field, GlobalNumber, HeapCalls, LayoutNumber, Register, Thread, TypedHeap};
 
 /// Thread 1 of two.
@@ -31,64 +30,63 @@ const WORD: Datum = Datum(3);
 const ROOT: GlobalNumber = GlobalNumber(6);
 
 /// Two objects: the second refers to the first.
-fn pair(alloc: Global, heap: &mut impl HeapCalls) -> Result<(), Refusal> {
-    heap.make(alloc, ME, FIRST, PAIRS)?;
-    heap.set_datum(ME, FIRST, WORD, 7)?;
-    heap.make_with(alloc, ME, SECOND, PAIRS, &[3, 2], &[1, 2])?;
-    Ok(())
+fn pair(rt: &impl Abort, alloc: Global, heap: &mut impl HeapCalls) {
+    done(rt, heap.make(alloc, ME, FIRST, PAIRS));
+    done(rt, heap.set_datum(ME, FIRST, WORD, 7));
+    done(
+        rt,
+        heap.make_with(alloc, ME, SECOND, PAIRS, &[3, 2], &[1, 2]),
+    );
 }
 
 /// References are loaded from their places.
-fn references(rt: &impl Abort, heap: &mut impl HeapCalls) -> Result<(), Refusal> {
-    heap.read(ME, READ, SECOND, LAST)?;
+fn references(rt: &impl Abort, heap: &mut impl HeapCalls) {
+    done(rt, heap.read(ME, READ, SECOND, LAST));
     same(rt, heap.same(ME, READ, FIRST), Ok(true));
-    heap.store(ME, FIRST, LAST, SECOND)?;
+    done(rt, heap.store(ME, FIRST, LAST, SECOND));
     let fields = [FieldLoad {
         target: READ.0,
         field: LAST.0,
     }];
     same(rt, heap.loads(ME, FIRST, &fields), Ok(()));
     same(rt, heap.same(ME, READ, SECOND), Ok(true));
-    heap.store_global(ME, ROOT, FIRST)?;
-    heap.read_global(ME, READ, ROOT)?;
+    done(rt, heap.store_global(ME, ROOT, FIRST));
+    done(rt, heap.read_global(ME, READ, ROOT));
     same(rt, heap.same(ME, READ, FIRST), Ok(true));
-    same(rt, heap.object(ME, READ)?.layout, PAIRS.0);
-    Ok(())
+    same(rt, done(rt, heap.object(ME, READ)).layout, PAIRS.0);
 }
 
 /// Data words are read from their places.
-fn words(rt: &impl Abort, heap: &mut impl HeapCalls) -> Result<(), Refusal> {
+fn words(rt: &impl Abort, heap: &mut impl HeapCalls) {
     same(rt, heap.datum(ME, FIRST, WORD), Ok(7));
-    heap.set_many(ME, SECOND, Datum(2), &[8, 9])?;
+    done(rt, heap.set_many(ME, SECOND, Datum(2), &[8, 9]));
     same(rt, heap.datum(ME, SECOND, WORD), Ok(9));
     let mut values = [0; 2];
-    heap.get_many(ME, SECOND, Datum(1), &mut values)?;
+    done(rt, heap.get_many(ME, SECOND, Datum(1), &mut values));
     same(rt, values[0], 2);
     same(rt, values[1], 8);
-    Ok(())
 }
 
 /// Registers are copied and cleared, and a thread is parked.
-fn registers(rt: &impl Abort, heap: &mut impl HeapCalls) -> Result<(), Refusal> {
-    heap.copy_register(ME, READ, SECOND)?;
+fn registers(rt: &impl Abort, heap: &mut impl HeapCalls) {
+    done(rt, heap.copy_register(ME, READ, SECOND));
     same(rt, heap.same(ME, READ, SECOND), Ok(true));
-    heap.clear_register(ME, READ)?;
+    done(rt, heap.clear_register(ME, READ));
     same(rt, heap.is_null(ME, READ), Ok(true));
     same(rt, heap.is_null(ME, SECOND), Ok(false));
-    heap.park(ME)?;
+    done(rt, heap.park(ME));
     same(rt, heap.is_null(ME, READ), Err(Refusal::Parked));
-    heap.unpark(ME)?;
+    done(rt, heap.unpark(ME));
     same(rt, heap.is_null(ME, READ), Ok(true));
-    Ok(())
 }
 
 /// A buffer is taken, an object allocated in it, and the rest given back.
-fn buffers(rt: &impl Abort, alloc: Global, heap: &mut impl HeapCalls) -> Result<(), Refusal> {
-    heap.give_back(ME)?;
-    heap.take(ME, 10)?;
+fn buffers(rt: &impl Abort, alloc: Global, heap: &mut impl HeapCalls) {
+    done(rt, heap.give_back(ME));
+    done(rt, heap.take(ME, 10));
     same(rt, heap.new_object(ME, READ, PAIRS), Ok(2));
     same(rt, heap.new_object(ME, READ, PAIRS), Err(Refusal::NoRoom));
-    heap.refill(alloc, ME)?;
+    done(rt, heap.refill(alloc, ME));
     same(rt, heap.new_object(ME, READ, PAIRS), Ok(3));
     same(
         rt,
@@ -96,33 +94,32 @@ fn buffers(rt: &impl Abort, alloc: Global, heap: &mut impl HeapCalls) -> Result<
         Ok(4),
     );
     same(rt, heap.datum(ME, READ, Datum(0)), Ok(5));
-    Ok(())
 }
 
-fn all(rt: &impl Abort, alloc: Global, mut heap: impl HeapCalls + Drop) -> Result<(), Refusal> {
-    pair(alloc, &mut heap)?;
-    references(rt, &mut heap)?;
-    words(rt, &mut heap)?;
-    registers(rt, &mut heap)?;
-    buffers(rt, alloc, &mut heap)
+fn all(rt: &impl Abort, alloc: Global, heap: &mut impl HeapCalls) {
+    pair(rt, alloc, heap);
+    references(rt, heap);
+    words(rt, heap);
+    registers(rt, heap);
+    buffers(rt, alloc, heap);
 }
 
 /// A heap of two threads with five registers each, three layouts and seven globals.
-pub fn new_heap(alloc: Global) -> Result<TypedHeap, Fail> {
-    let layouts = Layouts::new(vec![in alloc;
+pub fn new_heap(rt: &impl Abort, alloc: Global) -> TypedHeap {
+    let layouts = vec![in alloc;
         Layout { refs: 0, nums: 0 },
         Layout { refs: 1, nums: 1 },
         Layout { refs: 2, nums: 4 },
-    ]?);
-    let mut config = Config::new(64, 8, layouts);
+    ];
+    let mut config = Config::new(64, 8, Layouts::new(done(rt, layouts)));
     config.threads = 2;
     config.registers = 5;
     config.globals = 7;
-    Ok(TypedHeap::new(alloc, config)?)
+    done(rt, TypedHeap::new(alloc, config))
 }
 
 #[test]
-fn each_call_takes_its_numbers(rt: HostRuntime) -> Result<(), Fail> {
-    all(&rt, rt.alloc(), new_heap(rt.alloc())?)?;
-    Ok(())
+fn each_call_takes_its_numbers(rt: HostRuntime) {
+    let mut heap = new_heap(&rt, rt.alloc());
+    all(&rt, rt.alloc(), &mut heap);
 }

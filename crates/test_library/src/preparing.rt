@@ -36,13 +36,9 @@ fn collect(
 
 /// The four pages of eight objects are emptied into two frames. If a part is out of memory, the heap is as it was,
 /// and the next parts end the collection; the test then fails as out of memory.
-fn ends(
-    rt: &impl Abort,
-    alloc: Global,
-    mut heap: impl Moving + Collect + Drop,
-) -> Result<(), Fail> {
-    fill_and_close(&mut heap)??;
-    let (lacked, most) = collect(rt, alloc, &mut heap)?;
+fn ends(rt: &impl Abort, alloc: Global, heap: &mut (impl Moving + Collect)) -> Result<(), Fail> {
+    fill_and_close(heap)??;
+    let (lacked, most) = collect(rt, alloc, heap)?;
     same(rt, most, 4);
     same(rt, heap.kept_frames(), 4);
     if lacked {
@@ -54,5 +50,6 @@ fn ends(
 
 #[test]
 fn parts_go_on(rt: HostRuntime) -> Result<(), Fail> {
-    ends(&rt, rt.alloc(), new_managed(rt.alloc())?)
+    let mut heap = new_managed(rt.alloc())?;
+    ends(&rt, rt.alloc(), &mut heap)
 }

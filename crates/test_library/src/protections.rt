@@ -51,29 +51,31 @@ fn protects_again(rt: &impl Abort, heap: &mut impl Moving, step: &Step, before: 
 
 /// The pages are protected and emptied. If the step is out of memory, the heap is as it was, and all is done when the
 /// step is repeated; the test then fails as out of memory.
-fn protect(rt: &impl Abort, alloc: Global, mut heap: impl Moving + Drop) -> Result<(), Fail> {
-    same(rt, fill_and_close(&mut heap)?, EIGHT);
+fn protect(rt: &impl Abort, alloc: Global, heap: &mut impl Moving) -> Result<(), Fail> {
+    same(rt, fill_and_close(heap)?, EIGHT);
     let step = protection(alloc)?;
     let before = heap.text(alloc)?;
     let reply = heap.work(&step);
     if reply == Err(Refusal::Memory) {
         let after = heap.text(alloc)?;
-        protects_again(rt, &mut heap, &step, &before, &after);
+        protects_again(rt, heap, &step, &before, &after);
     } else {
         same(rt, reply, ALL);
     }
     same(rt, heap.progress(), (Phase::ProtectCrossing, false, 8));
-    empty(rt, &mut heap);
+    empty(rt, heap);
     reply?;
     Ok(())
 }
 
 #[test]
 fn four_pages_are_protected(rt: HostRuntime) -> Result<(), Fail> {
-    protect(&rt, rt.alloc(), new_heap(rt.alloc())?)
+    let mut heap = new_heap(rt.alloc())?;
+    protect(&rt, rt.alloc(), &mut heap)
 }
 
 #[test]
 fn four_pages_of_a_managed_heap(rt: HostRuntime) -> Result<(), Fail> {
-    protect(&rt, rt.alloc(), new_managed(rt.alloc())?)
+    let mut heap = new_managed(rt.alloc())?;
+    protect(&rt, rt.alloc(), &mut heap)
 }
