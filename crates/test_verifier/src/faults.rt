@@ -2,10 +2,11 @@
 //! in frame 0, and a register of each thread and the global refer to it. When it has moved it is at page 2, offset 0,
 //! page 1 is released, and roots refer to it by its old place until the next mark.
 
+use crate::same::done;
 use crate::stories::{Story, told};
 use model::PageState;
 use std::alloc::Global;
-use std::test::Fail;
+use std::process::Abort;
 use test_support_images::{
     entry, set_entry, set_frame, set_free, set_global, set_load, set_page, set_start, set_word,
     word,
@@ -85,14 +86,14 @@ fn plant(image: &mut Image, planted: Planted) {
 }
 
 /// Returns the verdict on the image of a story's end after a fault was made.
-fn verdict_on(alloc: Global, story: Story, planted: Planted) -> Result<Verdict, Fail> {
-    let mut image = told(alloc, story)?;
+fn verdict_on(rt: &impl Abort, alloc: Global, story: Story, planted: Planted) -> Verdict {
+    let mut image = told(rt, alloc, story);
     plant(&mut image, planted);
-    Ok(verify_image(alloc, &image)?)
+    done(rt, verify_image(alloc, &image))
 }
 
 #[test]
-fn each_fault_is_told(rt: HostRuntime) -> Result<(), Fail> {
+fn each_fault_is_told(rt: HostRuntime) {
     let frames = Verdict::Faulty(Fault::Frames);
     for (story, planted, verdict) in [
         (Story::Closed, Planted::Nothing, Verdict::Sound),
@@ -126,8 +127,7 @@ fn each_fault_is_told(rt: HostRuntime) -> Result<(), Fail> {
             Verdict::Faulty(Fault::Root(Root::Pending(0))),
         ),
     ] {
-        let found = verdict_on(rt.alloc(), story, planted)?;
+        let found = verdict_on(&rt, rt.alloc(), story, planted);
         assert_eq!(rt; found, verdict, "{planted:?}");
     }
-    Ok(())
 }

@@ -1,10 +1,9 @@
 //! Verdicts on made images: the order of faults, twins, and forwarding tables. Single faults are in `faults`.
 
-use crate::same::same;
+use crate::same::{done, same};
 use model::PageState;
 use std::alloc::{AllocError, Global};
 use std::process::Abort;
-use std::test::Fail;
 use test_support_images::{
     add_entry, bare, put, set_free, set_global, set_load, set_page, set_register, set_word,
 };
@@ -60,11 +59,10 @@ fn faults_in_turn(rt: &impl Abort, alloc: Global, image: &mut Image) {
 }
 
 #[test]
-fn first_fault(rt: HostRuntime) -> Result<(), Fail> {
-    let mut image = sample(rt.alloc())?;
+fn first_fault(rt: HostRuntime) {
+    let mut image = done(&rt, sample(rt.alloc()));
     is_sound(&rt, rt.alloc(), &image);
     faults_in_turn(&rt, rt.alloc(), &mut image);
-    Ok(())
 }
 
 /// The first object leads to one of two references after it, and the objects' fields go wrong from the last to the
@@ -83,16 +81,15 @@ fn fields_in_turn(rt: &impl Abort, alloc: Global, image: &mut Image) {
 }
 
 #[test]
-fn first_field(rt: HostRuntime) -> Result<(), Fail> {
-    let mut image = sample(rt.alloc())?;
+fn first_field(rt: HostRuntime) {
+    let mut image = done(&rt, sample(rt.alloc()));
     fields_in_turn(&rt, rt.alloc(), &mut image);
-    Ok(())
 }
 
 /// Twins of the births 5 and 2, one of each of which is reached.
 #[test]
-fn least_twins(rt: HostRuntime) -> Result<(), Fail> {
-    let mut image = sample(rt.alloc())?;
+fn least_twins(rt: HostRuntime) {
+    let mut image = done(&rt, sample(rt.alloc()));
     for (offset, birth) in [(3, 5), (5, 5), (7, 2), (9, 2)] {
         put(&mut image, (1, 0), offset, birth, 2);
     }
@@ -101,7 +98,6 @@ fn least_twins(rt: HostRuntime) -> Result<(), Fail> {
     has_fault(&rt, rt.alloc(), &image, Fault::Twins(5));
     set_register(&mut image, 1, 1, 23);
     has_fault(&rt, rt.alloc(), &image, Fault::Twins(2));
-    Ok(())
 }
 
 /// The header of birth 5 + 2^32 and of layout 2.
@@ -109,8 +105,8 @@ const LATE: u64 = 5 + (2 << 32) + (1 << 40);
 
 /// Two objects are no twins if the upper bits of their births differ.
 #[test]
-fn late_twins(rt: HostRuntime) -> Result<(), Fail> {
-    let mut image = sample(rt.alloc())?;
+fn late_twins(rt: HostRuntime) {
+    let mut image = done(&rt, sample(rt.alloc()));
     for offset in [3, 5] {
         put(&mut image, (1, 0), offset, 5, 2);
     }
@@ -120,17 +116,16 @@ fn late_twins(rt: HostRuntime) -> Result<(), Fail> {
     is_sound(&rt, rt.alloc(), &image);
     set_word(&mut image, 0, 5, LATE);
     has_fault(&rt, rt.alloc(), &image, Fault::Twins(5 + (1 << 32)));
-    Ok(())
 }
 
 /// An old object on a protected page is no twin of its copy, once its entry says that it is copied.
-fn copies_in_turn(rt: &impl Abort, alloc: Global, image: &mut Image) -> Result<(), AllocError> {
+fn copies_in_turn(rt: &impl Abort, alloc: Global, image: &mut Image) {
     set_page(image, 2, PageState::From, Some(1));
     set_free(image, 0, 2);
     image.free.truncate(1);
     put(image, (2, 1), 0, 0, 0);
     has_fault(rt, alloc, image, Fault::Twins(0));
-    add_entry(image, 2, (0, FIRST, true))?;
+    done(rt, add_entry(image, 2, (0, FIRST, true)));
     is_sound(rt, alloc, image);
     set_register(image, 0, 1, 32);
     is_sound(rt, alloc, image);
@@ -138,39 +133,35 @@ fn copies_in_turn(rt: &impl Abort, alloc: Global, image: &mut Image) -> Result<(
     has_fault(rt, alloc, image, Fault::Twins(0));
     set_register(image, 0, 1, 0);
     is_sound(rt, alloc, image);
-    Ok(())
 }
 
 #[test]
-fn old_beside_its_copy(rt: HostRuntime) -> Result<(), Fail> {
-    let mut image = sample(rt.alloc())?;
-    copies_in_turn(&rt, rt.alloc(), &mut image)?;
-    Ok(())
+fn old_beside_its_copy(rt: HostRuntime) {
+    let mut image = done(&rt, sample(rt.alloc()));
+    copies_in_turn(&rt, rt.alloc(), &mut image);
 }
 
 /// An uncopied entry doesn't lead anywhere, and leaves its object a twin.
 #[test]
-fn planned_and_not_copied(rt: HostRuntime) -> Result<(), Fail> {
-    let mut image = sample(rt.alloc())?;
+fn planned_and_not_copied(rt: HostRuntime) {
+    let mut image = done(&rt, sample(rt.alloc()));
     set_page(&mut image, 2, PageState::Gone, None);
-    add_entry(&mut image, 2, (0, FIRST, false))?;
-    add_entry(&mut image, 2, (0, FIRST, true))?;
-    add_entry(&mut image, 2, (1, FIRST, true))?;
+    done(&rt, add_entry(&mut image, 2, (0, FIRST, false)));
+    done(&rt, add_entry(&mut image, 2, (0, FIRST, true)));
+    done(&rt, add_entry(&mut image, 2, (1, FIRST, true)));
     set_register(&mut image, 0, 1, 33);
     is_sound(&rt, rt.alloc(), &image);
     set_register(&mut image, 0, 1, 32);
     has_fault(&rt, rt.alloc(), &image, Fault::Root(Root::Register(0, 1)));
-    Ok(())
 }
 
 /// The forwarding table of an unused page leads nowhere.
 #[test]
-fn side_of_an_unused_page(rt: HostRuntime) -> Result<(), Fail> {
-    let mut image = sample(rt.alloc())?;
-    add_entry(&mut image, 2, (0, FIRST, true))?;
+fn side_of_an_unused_page(rt: HostRuntime) {
+    let mut image = done(&rt, sample(rt.alloc()));
+    done(&rt, add_entry(&mut image, 2, (0, FIRST, true)));
     set_register(&mut image, 0, 1, 32);
     has_fault(&rt, rt.alloc(), &image, Fault::Root(Root::Register(0, 1)));
     set_page(&mut image, 2, PageState::Gone, None);
     is_sound(&rt, rt.alloc(), &image);
-    Ok(())
 }

@@ -1,10 +1,9 @@
 //! A thousand images with random faults, compared with the slow verdict.
 
-use crate::same::same;
+use crate::same::{done, same};
 use model::PageState;
-use std::alloc::{AllocError, Global};
+use std::alloc::Global;
 use std::process::Abort;
-use std::test::Fail;
 use test_support_images::{
     add_entry, bare, put, set_free, set_global, set_load, set_page, set_register, set_start,
     set_word, shorten_starts, slow_verdict,
@@ -53,7 +52,7 @@ pub fn value(dice: &mut Dice) -> u64 {
 
 /// Adds objects to two pages at a place of each, of different births, and an old object of the first on the third
 /// page, which is copied.
-fn fill(image: &mut Image, dice: &mut Dice, place: u32) -> Result<(), AllocError> {
+fn fill(rt: &impl Abort, image: &mut Image, dice: &mut Dice, place: u32) {
     let offset = place.saturating_mul(3) as usize;
     for (page, frame, birth) in [
         (1, 0, place),
@@ -65,13 +64,13 @@ fn fill(image: &mut Image, dice: &mut Dice, place: u32) -> Result<(), AllocError
         set_word(image, frame, offset.saturating_add(2), word(dice));
     }
     let to = (offset as u64).saturating_add(16);
-    add_entry(image, 3, (offset as u32, to, true))
+    done(rt, add_entry(image, 3, (offset as u32, to, true)));
 }
 
 /// Returns a sound image of four pages: two with objects, one that is protected and may be gone, and one that is
 /// unused.
-fn sound(alloc: Global, dice: &mut Dice) -> Result<Image, AllocError> {
-    let mut image = bare(alloc, 4)?;
+fn sound(rt: &impl Abort, alloc: Global, dice: &mut Dice) -> Image {
+    let mut image = done(rt, bare(alloc, 4));
     set_page(&mut image, 2, PageState::Closed, Some(1));
     set_free(&mut image, 0, 2);
     if dice.hits(2) {
@@ -82,9 +81,9 @@ fn sound(alloc: Global, dice: &mut Dice) -> Result<Image, AllocError> {
         image.free.clear();
     }
     for place in 0..5 {
-        fill(&mut image, dice, place)?;
+        fill(rt, &mut image, dice, place);
     }
-    Ok(image)
+    image
 }
 
 /// Sets the roots to what they can refer to.
@@ -160,41 +159,40 @@ fn spoil_roots(image: &mut Image, dice: &mut Dice) {
 }
 
 /// Adds an entry to a forwarding table, or removes some.
-fn spoil_sides(image: &mut Image, dice: &mut Dice) -> Result<(), AllocError> {
+fn spoil_sides(rt: &impl Abort, image: &mut Image, dice: &mut Dice) {
     if dice.hits(2) && image.pages.len() > 2 {
         image.pages[2].side.truncate(dice.roll(5) as usize);
     }
     let copied = dice.hits(2);
     let entry = (dice.roll(16) as u32, dice.roll(80), copied);
-    add_entry(image, dice.roll(5) as usize, entry)
+    done(rt, add_entry(image, dice.roll(5) as usize, entry));
 }
 
 /// Changes one thing.
-fn spoil(image: &mut Image, dice: &mut Dice) -> Result<(), AllocError> {
+fn spoil(rt: &impl Abort, image: &mut Image, dice: &mut Dice) {
     match dice.roll(12) {
         0 => spoil_pages(image, dice),
         1 => shorten(image, dice),
-        2 | 3 => return spoil_sides(image, dice),
+        2 | 3 => spoil_sides(rt, image, dice),
         4 | 5 => spoil_roots(image, dice),
         _ => spoil_objects(image, dice),
     }
-    Ok(())
 }
 
 /// Returns a sound image with roots.
-pub fn rooted(alloc: Global, dice: &mut Dice) -> Result<Image, AllocError> {
-    let mut image = sound(alloc, dice)?;
+pub fn rooted(rt: &impl Abort, alloc: Global, dice: &mut Dice) -> Image {
+    let mut image = sound(rt, alloc, dice);
     root(&mut image, dice);
-    Ok(image)
+    image
 }
 
 /// Returns an image in which up to five things are changed.
-fn picture(alloc: Global, dice: &mut Dice) -> Result<Image, AllocError> {
-    let mut image = rooted(alloc, dice)?;
+fn picture(rt: &impl Abort, alloc: Global, dice: &mut Dice) -> Image {
+    let mut image = rooted(rt, alloc, dice);
     for _ in 0..dice.roll(6) {
-        spoil(&mut image, dice)?;
+        spoil(rt, &mut image, dice);
     }
-    Ok(image)
+    image
 }
 
 /// Returns the kind of a verdict: 0 if there is no fault.
@@ -211,20 +209,20 @@ fn kind(verdict: Verdict) -> usize {
 }
 
 /// Both verdicts on an image are the same. Returns its kind.
-pub fn judged(rt: &impl Abort, alloc: Global, image: &Image) -> Result<usize, AllocError> {
-    let wanted = slow_verdict(alloc, image)?;
+pub fn judged(rt: &impl Abort, alloc: Global, image: &Image) -> usize {
+    let wanted = done(rt, slow_verdict(alloc, image));
     same(rt, verify_image(alloc, image), Ok(wanted));
-    Ok(kind(wanted))
+    kind(wanted)
 }
 
 /// Each kind occurs often.
 #[test]
-fn verdicts_agree(rt: HostRuntime) -> Result<(), Fail> {
+fn verdicts_agree(rt: HostRuntime) {
     let mut dice = Dice::new(2005);
     let mut counts = [0usize; 7];
     for _ in 0..1000 {
-        let image = picture(rt.alloc(), &mut dice)?;
-        let kind = judged(&rt, rt.alloc(), &image)?;
+        let image = picture(&rt, rt.alloc(), &mut dice);
+        let kind = judged(&rt, rt.alloc(), &image);
         if kind < counts.len() {
             counts[kind] = counts[kind].saturating_add(1);
         }
@@ -232,5 +230,4 @@ fn verdicts_agree(rt: HostRuntime) -> Result<(), Fail> {
     for (kind, count) in counts.iter().enumerate() {
         assert!(rt; *count >= 20, "{count} of kind {kind}");
     }
-    Ok(())
 }

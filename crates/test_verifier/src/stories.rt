@@ -1,11 +1,12 @@
 //! The steps on the heaps whose images get faults.
 
+use crate::same::done;
 use cycle::{Actor, Book, PageList, Reply, Step};
 use heap::{Config, Refusal};
 use heap_images::image_of;
 use layout::{Layout, Layouts};
 use std::alloc::{AllocError, Global};
-use std::test::Fail;
+use std::process::Abort;
 use verify::Image;
 
 const FIRST: Actor = Actor::Thread(0);
@@ -59,67 +60,64 @@ fn config(alloc: Global) -> Result<Config, AllocError> {
     Ok(config)
 }
 
+/// A step is accepted.
+fn does(rt: &impl Abort, book: &mut impl Telling, actor: Actor, step: Step) {
+    done(rt, book.act(actor, step));
+}
+
 /// Thread 0 allocates an object with a datum of 5 at page 1, offset 0, and stores it in the global.
-fn make(book: &mut impl Telling) -> Result<(), Refusal> {
+fn make(rt: &impl Abort, book: &mut impl Telling) {
     let (target, layout) = (0, 0);
     let (object, index, value) = (0, 0, 5);
     let (global, source) = (0, 0);
-    book.act(FIRST, Step::Take(16))?;
-    book.act(FIRST, Step::New { target, layout })?;
     let set = Step::SetDatum {
         object,
         index,
         value,
     };
-    book.act(FIRST, set)?;
-    book.act(FIRST, Step::StoreGlobal { global, source })?;
-    book.act(FIRST, Step::GiveBack)?;
-    Ok(())
+    does(rt, book, FIRST, Step::Take(16));
+    does(rt, book, FIRST, Step::New { target, layout });
+    does(rt, book, FIRST, set);
+    does(rt, book, FIRST, Step::StoreGlobal { global, source });
+    does(rt, book, FIRST, Step::GiveBack);
 }
 
 /// Both threads cross.
-fn cross(book: &mut impl Telling) -> Result<(), Refusal> {
-    book.act(FIRST, Step::Cross)?;
-    book.act(SECOND, Step::Cross)?;
-    Ok(())
+fn cross(rt: &impl Abort, book: &mut impl Telling) {
+    does(rt, book, FIRST, Step::Cross);
+    does(rt, book, SECOND, Step::Cross);
 }
 
 /// An object to which a register of each thread and the global refer, on a page that a mark has closed.
-fn close(alloc: Global, book: &mut impl Telling) -> Result<(), Refusal> {
-    make(book)?;
+fn close(rt: &impl Abort, alloc: Global, book: &mut impl Telling) {
+    make(rt, book);
     let (target, global) = (0, 0);
-    book.load(alloc, SECOND, Step::LoadGlobal { target, global })?;
-    book.act(WORKER, Step::StartMark)?;
-    cross(book)?;
-    book.drain(alloc, 0)?;
-    book.act(WORKER, Step::EndMark)?;
-    Ok(())
+    let load = Step::LoadGlobal { target, global };
+    done(rt, book.load(alloc, SECOND, load));
+    does(rt, book, WORKER, Step::StartMark);
+    cross(rt, book);
+    done(rt, book.drain(alloc, 0));
+    does(rt, book, WORKER, Step::EndMark);
 }
 
 /// Its page is emptied, and its frame is released: the object moves to page 2.
-fn move_off(book: &mut impl Telling, pages: PageList) -> Result<(), Refusal> {
+fn move_off(rt: &impl Abort, alloc: Global, book: &mut impl Telling) {
     let (page, entry) = (1, 0);
-    book.act(WORKER, Step::Protect(pages))?;
-    cross(book)?;
-    book.act(WORKER, Step::Copy { page, entry })?;
-    book.act(WORKER, Step::Release(page))?;
-    Ok(())
+    let pages = PageList::new(done(rt, vec![in alloc; 1; 1]));
+    does(rt, book, WORKER, Step::Protect(pages));
+    cross(rt, book);
+    does(rt, book, WORKER, Step::Copy { page, entry });
+    does(rt, book, WORKER, Step::Release(page));
 }
 
 /// The next mark starts, and thread 0 loads the global: a trap has corrected the reference of its load, which hasn't
 /// ended.
-fn trap(book: &mut impl Telling) -> Result<(), Refusal> {
+fn trap(rt: &impl Abort, book: &mut impl Telling) {
     let (target, global) = (1, 0);
-    book.act(WORKER, Step::StartMark)?;
-    cross(book)?;
-    book.act(FIRST, Step::LoadGlobal { target, global })?;
-    book.act(FIRST, Step::Trap)?;
-    Ok(())
-}
-
-/// Returns the list of page 1 alone.
-fn first_page(alloc: Global) -> Result<PageList, AllocError> {
-    Ok(PageList::new(vec![in alloc; 1; 1]?))
+    does(rt, book, WORKER, Step::StartMark);
+    cross(rt, book);
+    does(rt, book, FIRST, Step::LoadGlobal { target, global });
+    does(rt, book, FIRST, Step::Trap);
 }
 
 /// The steps on a heap before its image is taken.
@@ -134,26 +132,22 @@ pub enum Story {
 }
 
 /// Does all steps of a story.
-fn act_out(alloc: Global, book: &mut impl Telling, story: Story) -> Result<(), Fail> {
-    close(alloc, book)?;
-    if matches!(story, Story::Closed) {
-        return Ok(());
+fn act_out(rt: &impl Abort, alloc: Global, book: &mut impl Telling, story: Story) {
+    close(rt, alloc, book);
+    match story {
+        Story::Closed => {}
+        Story::Moved => move_off(rt, alloc, book),
+        Story::Trapped => {
+            move_off(rt, alloc, book);
+            trap(rt, book);
+        }
     }
-    move_off(book, first_page(alloc)?)?;
-    if matches!(story, Story::Trapped) {
-        trap(book)?;
-    }
-    Ok(())
-}
-
-/// Returns the image of a recorded heap at the end of a story.
-fn image_of_end(alloc: Global, mut book: impl Telling + Drop, story: Story) -> Result<Image, Fail> {
-    act_out(alloc, &mut book, story)?;
-    Ok(book.image(alloc)?)
 }
 
 /// Returns the image of a heap at the end of a story that began with a new one.
-pub fn told(alloc: Global, story: Story) -> Result<Image, Fail> {
-    let book = Book::new(alloc, config(alloc)?)?;
-    image_of_end(alloc, book, story)
+pub fn told(rt: &impl Abort, alloc: Global, story: Story) -> Image {
+    let config = done(rt, config(alloc));
+    let mut book = done(rt, Book::new(alloc, config));
+    act_out(rt, alloc, &mut book, story);
+    done(rt, Telling::image(&book, alloc))
 }

@@ -1,6 +1,6 @@
 //! Images of heaps, and their texts; the texts of faults.
 
-use crate::same::same;
+use crate::same::{done, same};
 use cycle::{Actor, Book, Step};
 use heap::NewFault;
 use heap_images::{image_of, verify};
@@ -11,7 +11,7 @@ use std::alloc::{AllocError, Global};
 use std::fmt::{Display, Write as _};
 use std::process::Abort;
 use std::test::Fail;
-use test_support_books::{HeldBook, act};
+use test_support_books::act;
 use verify::{Fault, Root, Verdict};
 
 const THREAD: Actor = Actor::Thread(0);
@@ -94,20 +94,8 @@ fn looks(rt: &impl Abort, alloc: Global, book: &Book, wanted: &str) -> Result<()
     Ok(())
 }
 
-/// A heap with that object has this image.
-fn looks_at_an_object(
-    rt: &impl Abort,
-    alloc: Global,
-    mut held: impl HeldBook + Drop,
-    wanted: &str,
-) -> Result<(), AllocError> {
-    let book = held.book();
-    same(rt, make_object(book), Ok(()));
-    looks(rt, alloc, book, wanted)
-}
-
 #[test]
-fn the_image_of_a_heap(rt: HostRuntime) -> Result<(), Fail> {
+fn the_image_of_a_heap(rt: HostRuntime) {
     let alloc: Global = rt.alloc();
     let wanted = "image words 16 frames 3 free 1 2\n\
         layout 1 1\n\
@@ -122,19 +110,19 @@ fn the_image_of_a_heap(rt: HostRuntime) -> Result<(), Fail> {
         frame 2\n\
         thread 0 load - registers 10 0\n\
         global 0 10\n";
-    looks_at_an_object(&rt, alloc, book(alloc)?, wanted)?;
-    Ok(())
+    let mut book = done(&rt, book(alloc));
+    done(&rt, make_object(&mut book));
+    done(&rt, looks(&rt, alloc, &book, wanted));
 }
 
 /// It has this image after its object moves.
 fn looks_at_a_move(
     rt: &impl Abort,
     alloc: Global,
-    mut held: impl HeldBook + Drop,
+    book: &mut Book,
     pages: PageList,
     wanted: &str,
 ) -> Result<(), Fail> {
-    let book = held.book();
     make_object(book)?;
     move_object(book, pages)?;
     looks(rt, alloc, book, wanted)?;
@@ -158,34 +146,26 @@ fn the_image_of_an_object_that_moves(rt: HostRuntime) -> Result<(), Fail> {
         frame 2\n\
         thread 0 load 8000000000000010 registers 8000000000000010 0\n\
         global 0 8000000000000010\n";
-    looks_at_a_move(&rt, alloc, book(alloc)?, pages, wanted)
+    let mut book = book(alloc)?;
+    looks_at_a_move(&rt, alloc, &mut book, pages, wanted)
 }
 
 /// A fault has this text, on pages of 16 words.
-fn reads(rt: &impl Abort, alloc: Global, fault: Fault, wanted: &str) -> Result<(), AllocError> {
+fn reads(rt: &impl Abort, alloc: Global, fault: Fault, wanted: &str) {
     let fault = FaultText { fault, words: 16 };
-    same(rt, text_of(alloc, &fault)?.as_str(), wanted);
-    Ok(())
+    same(rt, done(rt, text_of(alloc, &fault)).as_str(), wanted);
 }
 
 #[test]
-fn the_texts_of_faults(rt: HostRuntime) -> Result<(), Fail> {
-    let alloc: Global = rt.alloc();
-    reads(&rt, alloc, Fault::Frames, "fault frames")?;
-    reads(
-        &rt,
-        alloc,
-        Fault::Root(Root::Register(1, 2)),
-        "fault root t1.r2",
-    )?;
-    reads(
-        &rt,
-        alloc,
-        Fault::Root(Root::Pending(3)),
-        "fault pending t3",
-    )?;
-    reads(&rt, alloc, Fault::Root(Root::Global(4)), "fault global 4")?;
-    reads(&rt, alloc, Fault::Field(37, 5), "fault field 2.5.5")?;
-    reads(&rt, alloc, Fault::Twins(6), "fault twins 6")?;
-    Ok(())
+fn the_texts_of_faults(rt: HostRuntime) {
+    for (fault, text) in [
+        (Fault::Frames, "fault frames"),
+        (Fault::Root(Root::Register(1, 2)), "fault root t1.r2"),
+        (Fault::Root(Root::Pending(3)), "fault pending t3"),
+        (Fault::Root(Root::Global(4)), "fault global 4"),
+        (Fault::Field(37, 5), "fault field 2.5.5"),
+        (Fault::Twins(6), "fault twins 6"),
+    ] {
+        reads(&rt, rt.alloc(), fault, text);
+    }
 }
