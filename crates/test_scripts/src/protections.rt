@@ -9,7 +9,7 @@ use script::{RunFault, report};
 use std::alloc::{AllocError, Global};
 use std::process::Abort;
 use std::test::Fail;
-use test_support_books::{HEAD, HeldBook, MARKED, act, act_all, book_of, script_of};
+use test_support_books::{HEAD, MARKED, act, act_all, book_of, script_of};
 
 /// The report after the mark of one object.
 const BEFORE: &str =
@@ -53,13 +53,7 @@ fn protect(alloc: Global, book: &mut Book) -> Result<Reply, AllocError> {
 
 /// Protects the page after a mark. If the step is out of memory, the report is the same as before, and the step
 /// succeeds when it is repeated.
-fn protects(
-    rt: &impl Abort,
-    alloc: Global,
-    mut held: impl HeldBook + Drop,
-    script: &Script,
-) -> Result<(), Fail> {
-    let book = held.book();
+fn protects(rt: &impl Abort, alloc: Global, book: &mut Book, script: &Script) -> Result<(), Fail> {
     act_all(alloc, book, script)?;
     has_report(rt, alloc, book, BEFORE)?;
     let reply = protect(alloc, book)?;
@@ -77,6 +71,6 @@ fn protects(
 #[test]
 fn the_report_stays(rt: HostRuntime) -> Result<(), Fail> {
     let script = script_of(rt.alloc(), &[HEAD, MARKED])?;
-    let book = book_of(rt.alloc(), &script)?;
-    protects(&rt, rt.alloc(), book, &script)
+    let mut book = book_of(rt.alloc(), &script)?;
+    protects(&rt, rt.alloc(), &mut book, &script)
 }

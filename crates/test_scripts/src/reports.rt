@@ -6,7 +6,7 @@ use script::{RunFault, report};
 use std::alloc::Global;
 use std::process::Abort;
 use std::test::Fail;
-use test_support_books::{HeldBook, small_book};
+use test_support_books::small_book;
 
 /// Returns the report of a new heap, with these answers to ends of marks.
 fn told(alloc: Global, book: &Book, answers: &[Answer]) -> Result<Vec<u8>, RunFault> {
@@ -21,12 +21,7 @@ fn told(alloc: Global, book: &Book, answers: &[Answer]) -> Result<Vec<u8>, RunFa
 }
 
 /// Two marks that ended, with an answer of another step between them.
-fn tells_cycles(
-    rt: &impl Abort,
-    alloc: Global,
-    mut held: impl HeldBook + Drop,
-) -> Result<(), Fail> {
-    let book = held.book();
+fn tells_cycles(rt: &impl Abort, alloc: Global, book: &Book) -> Result<(), RunFault> {
     let answers = [
         Answer::Ended {
             live: 4,
@@ -47,5 +42,7 @@ fn tells_cycles(
 
 #[test]
 fn cycles(rt: HostRuntime) -> Result<(), Fail> {
-    tells_cycles(&rt, rt.alloc(), small_book(rt.alloc())?)
+    let book = small_book(rt.alloc())?;
+    tells_cycles(&rt, rt.alloc(), &book)?;
+    Ok(())
 }

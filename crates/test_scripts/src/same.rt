@@ -1,5 +1,4 @@
-//! Assertions that two values are equal. An assertion in a test takes some seconds of proof, a call of one here next
-//! to none.
+//! Assertions. Written out, an assertion or a `?` in a test takes seconds of proof; a call of one here next to none.
 
 use std::fmt::Debug;
 use std::process::Abort;
@@ -7,4 +6,12 @@ use std::process::Abort;
 /// Asserts that two values are equal.
 pub fn same<T: PartialEq + Debug + Drop>(rt: &impl Abort, found: T, wanted: T) {
     assert_eq!(rt; found, wanted);
+}
+
+/// Asserts that a call succeeded, and returns its value.
+pub fn done<T, E: Debug + Drop>(rt: &impl Abort, found: Result<T, E>) -> T {
+    match found {
+        Ok(value) => value,
+        Err(error) => panic!(rt; "error: {error:?}"),
+    }
 }

@@ -3,7 +3,7 @@
 //! `rt try --test --fail-alloc N` lets the Nth allocation of a test fail: `parse` then returns that it is out of
 //! memory.
 
-use crate::same::same;
+use crate::same::{done, same};
 use layout::Layout;
 use model::Config;
 use parser::{Command, Order, ParseFault, Script, parse};
@@ -40,8 +40,7 @@ fn has_steps(alloc: Global, script: &Script, texts: &[&str]) -> Result<bool, All
 /// A script of these lines has orders whose steps have these texts.
 fn reads(rt: &impl Abort, alloc: Global, lines: &str, texts: &[&str]) -> Result<(), Fail> {
     let script = parse_parts(alloc, HEAD, lines)?;
-    let is_so = has_steps(alloc, &script, texts)?;
-    assert!(rt; is_so);
+    same(rt, has_steps(alloc, &script, texts)?, true);
     Ok(())
 }
 
@@ -127,14 +126,14 @@ fn has_layouts(rt: &impl Abort, config: &Config, layouts: &[Layout]) {
 }
 
 #[test]
-fn a_configuration(rt: HostRuntime) -> Result<(), Fail> {
-    let script = parse_parts(rt.alloc(), HEAD, "# layouts\nlayout 3 4\nt0 give\n")?;
+fn a_configuration(rt: HostRuntime) {
+    let lines = "# layouts\nlayout 3 4\nt0 give\n";
+    let script = done(&rt, parse_parts(rt.alloc(), HEAD, lines));
     let (config, commands) = script.into_parts();
     same(&rt, commands.len(), 1);
     has_numbers(&rt, &config);
     let layouts = [Layout { refs: 0, nums: 2 }, Layout { refs: 3, nums: 4 }];
     has_layouts(&rt, &config, &layouts);
-    Ok(())
 }
 
 #[test]

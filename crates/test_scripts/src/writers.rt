@@ -1,14 +1,13 @@
 //! Writers that fail in each mode: at some write, or when they are flushed. The program itself tests words, scripts
 //! and files.
 
-use crate::same::same;
+use crate::same::{done, same};
 use cli::{AskFault, Asked, ask, serve};
 use std::alloc::Global;
 use std::io;
 use std::io::{BufWriter, Write};
 use std::process::Abort;
 use std::sync::Wait;
-use std::test::Fail;
 use std::thread::Threads;
 
 const SCRIPT: &str =
@@ -105,19 +104,19 @@ fn made_to_fail(alloc: Global, left: u32, most: usize) -> Failing {
 /// Runs the script with such a writer and a buffer of `capacity` bytes. Returns the status, the writer, and the
 /// errors.
 fn served_by(
-    rt: &(impl Threads + Wait + Sync),
+    rt: &(impl Abort + Threads + Wait + Sync),
     alloc: Global,
     words: &str,
     capacity: usize,
     writer: Failing,
-) -> Result<(u8, Failing, Vec<u8>), Fail> {
-    let asked = words_asked(alloc, words)?;
+) -> (u8, Failing, Vec<u8>) {
+    let asked = done(rt, words_asked(alloc, words));
     let mut reader = SCRIPT.as_bytes();
-    let mut output = BufWriter::with_capacity(alloc, capacity, writer)?;
+    let mut output = done(rt, BufWriter::with_capacity(alloc, capacity, writer));
     let mut errors = Vec::new(alloc);
     let status = serve(rt, alloc, &asked, &mut reader, &mut output, &mut errors);
     let (writer, _) = output.into_parts();
-    Ok((status, writer, errors))
+    (status, writer, errors)
 }
 
 /// With a buffer of `capacity` bytes a writer that can't accept all causes status 3 and its error, gets a prefix of
@@ -129,8 +128,8 @@ fn is_told(
     capacity: usize,
     writer: Failing,
     is_enough: bool,
-) -> Result<(), Fail> {
-    let (status, writer, errors) = served_by(rt, alloc, what.words, capacity, writer)?;
+) {
+    let (status, writer, errors) = served_by(rt, alloc, what.words, capacity, writer);
     let (wanted, fault) = if is_enough {
         (0, "")
     } else {
@@ -142,7 +141,6 @@ fn is_told(
     same(rt, writer.taken.len() == what.output.len(), is_enough);
     same(rt, what.output.as_bytes().starts_with(&writer.taken), true);
     same(rt, errors.as_slice(), fault.as_bytes());
-    Ok(())
 }
 
 /// With a buffer of `capacity` bytes and up to `most` bytes for each write, this many writes are needed, and the
@@ -154,33 +152,30 @@ fn are_needed(
     capacity: usize,
     most: usize,
     writes: u32,
-) -> Result<(), Fail> {
+) {
     for left in 0..writes.wrapping_add(2) {
         let writer = made_to_fail(alloc, left, most);
-        is_told(rt, alloc, what, capacity, writer, left >= writes)?;
+        is_told(rt, alloc, what, capacity, writer, left >= writes);
     }
-    Ok(())
 }
 
 /// The output is written line by line or in pieces with a small buffer, and at once with a large one.
 #[test]
-fn each_write_fails(rt: HostRuntime) -> Result<(), Fail> {
+fn each_write_fails(rt: HostRuntime) {
     for what in [RUN, CHECK, THREADS] {
-        are_needed(&rt, rt.alloc(), what, 8, usize::MAX, what.writes)?;
-        are_needed(&rt, rt.alloc(), what, 8192, usize::MAX, 1)?;
+        are_needed(&rt, rt.alloc(), what, 8, usize::MAX, what.writes);
+        are_needed(&rt, rt.alloc(), what, 8192, usize::MAX, 1);
     }
-    Ok(())
 }
 
 /// A writer that accepts a byte at a time gets all bytes, or those before its failure.
 #[test]
-fn each_short_write_fails(rt: HostRuntime) -> Result<(), Fail> {
+fn each_short_write_fails(rt: HostRuntime) {
     for what in [RUN, CHECK, THREADS] {
         let writes = what.output.len() as u32;
-        are_needed(&rt, rt.alloc(), what, 8, 1, writes)?;
-        are_needed(&rt, rt.alloc(), what, 8192, 1, writes)?;
+        are_needed(&rt, rt.alloc(), what, 8, 1, writes);
+        are_needed(&rt, rt.alloc(), what, 8192, 1, writes);
     }
-    Ok(())
 }
 
 /// The failure of a writer that can't be flushed is reported, with a buffer of `capacity` bytes.
@@ -189,10 +184,10 @@ fn flush_is_told(
     alloc: Global,
     what: Script<'_>,
     capacity: usize,
-) -> Result<(), Fail> {
+) {
     let mut writer = made_to_fail(alloc, 8, usize::MAX);
     writer.is_flushed = false;
-    let (status, writer, errors) = served_by(rt, alloc, what.words, capacity, writer)?;
+    let (status, writer, errors) = served_by(rt, alloc, what.words, capacity, writer);
     same(rt, status, 3);
     same(rt, writer.taken.as_slice(), what.output.as_bytes());
     same(
@@ -200,14 +195,12 @@ fn flush_is_told(
         errors.as_slice(),
         b"pauseless: cannot write\n".as_slice(),
     );
-    Ok(())
 }
 
 #[test]
-fn a_flush_fails(rt: HostRuntime) -> Result<(), Fail> {
+fn a_flush_fails(rt: HostRuntime) {
     for what in [RUN, CHECK, THREADS] {
-        flush_is_told(&rt, rt.alloc(), what, 8)?;
-        flush_is_told(&rt, rt.alloc(), what, 8192)?;
+        flush_is_told(&rt, rt.alloc(), what, 8);
+        flush_is_told(&rt, rt.alloc(), what, 8192);
     }
-    Ok(())
 }
