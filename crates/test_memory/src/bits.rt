@@ -1,7 +1,7 @@
 //! Bitmaps compared with plain flags, one `bool` a bit.
 
 use crate::rows::clear_rows;
-use crate::same::{same, same_at};
+use crate::same::{done, same, same_at};
 use markbits::{Row, Rows};
 use std::alloc::{AllocError, Global};
 use std::process::Abort;
@@ -53,19 +53,17 @@ fn go_along(rt: &impl Abort, row: &mut Row, flags: &mut [bool]) {
 }
 
 /// A bitmap and flags of a page of `size` words.
-fn goes_along(rt: &impl Abort, alloc: Global, size: u32) -> Result<(), AllocError> {
-    let mut row = Row::new(alloc, size)?;
-    let mut flags = vec![in alloc; false; size as usize]?;
+fn goes_along(rt: &impl Abort, alloc: Global, size: u32) {
+    let mut row = done(rt, Row::new(alloc, size));
+    let mut flags = done(rt, vec![in alloc; false; size as usize]);
     go_along(rt, &mut row, &mut flags);
-    Ok(())
 }
 
 #[test]
-fn rows_go_along_with_flags(rt: HostRuntime) -> Result<(), AllocError> {
+fn rows_go_along_with_flags(rt: HostRuntime) {
     for size in PAGE_SIZES {
-        goes_along(&rt, rt.alloc(), size)?;
+        goes_along(&rt, rt.alloc(), size);
     }
-    Ok(())
 }
 
 fn set_each_third(row: &mut Row) {
@@ -86,15 +84,14 @@ fn has_each_third(rt: &impl Abort, row: &Row) {
 }
 
 #[test]
-fn each_third_place(rt: HostRuntime) -> Result<(), AllocError> {
-    let mut row = Row::new(rt.alloc(), 4096)?;
+fn each_third_place(rt: HostRuntime) {
+    let mut row = done(&rt, Row::new(rt.alloc(), 4096));
     set_each_third(&mut row);
     has_each_third(&rt, &row);
     row.clear();
     same(&rt, (row.count(), row.next_from(0)), (0, None));
     row.put(4095, true);
     same(&rt, (row.count(), row.next_from(0)), (1, Some(4095)));
-    Ok(())
 }
 
 /// The first places that are set in bitmaps 0 to 2.
@@ -116,11 +113,10 @@ fn change_tables(rt: &impl Abort, rows: &mut Rows, other: &mut Rows) {
 }
 
 #[test]
-fn tables_of_rows(rt: HostRuntime) -> Result<(), AllocError> {
-    let mut rows = clear_rows(rt.alloc(), 3, 100)?;
-    let mut other = clear_rows(rt.alloc(), 3, 100)?;
+fn tables_of_rows(rt: HostRuntime) {
+    let mut rows = done(&rt, clear_rows(rt.alloc(), 3, 100));
+    let mut other = done(&rt, clear_rows(rt.alloc(), 3, 100));
     change_tables(&rt, &mut rows, &mut other);
-    Ok(())
 }
 
 #[test]

@@ -1,6 +1,6 @@
 //! Configurations, and lists of pages.
 
-use crate::same::same;
+use crate::same::{done, same};
 use layout::{Layout, Layouts};
 use model::{Config, ConfigFault, PageList};
 use std::alloc::{AllocError, Global};
@@ -42,11 +42,10 @@ fn spoil(rt: &impl Abort, config: &mut Config, layouts: Layouts) {
 }
 
 #[test]
-fn the_first_fault_is_told(rt: HostRuntime) -> Result<(), Fail> {
-    let large = vec![in rt.alloc(); Layout { refs: 1, nums: 15 }]?;
-    let mut config = small(rt.alloc())?;
+fn the_first_fault_is_told(rt: HostRuntime) {
+    let large = done(&rt, vec![in rt.alloc(); Layout { refs: 1, nums: 15 }]);
+    let mut config = done(&rt, small(rt.alloc()));
     spoil(&rt, &mut config, Layouts::new(large));
-    Ok(())
 }
 
 /// The greatest configuration that a heap can be made with, except for the layouts and the history.
@@ -82,22 +81,20 @@ fn exceed(rt: &impl Abort, config: &mut Config) {
 }
 
 #[test]
-fn the_greatest_numbers(rt: HostRuntime) -> Result<(), Fail> {
-    let layouts = vec![in rt.alloc(); Layout { refs: 1, nums: 1 }; 256]?;
+fn the_greatest_numbers(rt: HostRuntime) {
+    let layouts = done(&rt, vec![in rt.alloc(); Layout { refs: 1, nums: 1 }; 256]);
     let mut config = greatest(Layouts::new(layouts));
     has_fault(&rt, &config, None);
     exceed(&rt, &mut config);
-    let layouts = vec![in rt.alloc(); Layout { refs: 1, nums: 1 }; 257]?;
+    let layouts = done(&rt, vec![in rt.alloc(); Layout { refs: 1, nums: 1 }; 257]);
     let config = greatest(Layouts::new(layouts));
     has_fault(&rt, &config, Some(ConfigFault::Layouts));
-    Ok(())
 }
 
 #[test]
-fn the_text_of_a_fault(rt: HostRuntime) -> Result<(), Fail> {
-    let text = format!(in rt.alloc(); "{}", ConfigFault::Words)?;
+fn the_text_of_a_fault(rt: HostRuntime) {
+    let text = done(&rt, format!(in rt.alloc(); "{}", ConfigFault::Words));
     same(&rt, text.as_str(), "words out of range");
-    Ok(())
 }
 
 /// The limits of births and entries are the greatest.
@@ -106,14 +103,13 @@ fn has_highest_limits(rt: &impl Abort, config: &Config) {
 }
 
 #[test]
-fn the_usual_values(rt: HostRuntime) -> Result<(), Fail> {
-    let layouts = vec![in rt.alloc(); Layout { refs: 1, nums: 14 }]?;
+fn the_usual_values(rt: HostRuntime) {
+    let layouts = done(&rt, vec![in rt.alloc(); Layout { refs: 1, nums: 14 }]);
     let config = Config::new(16, 3, Layouts::new(layouts));
     same(&rt, sizes(&config), [16, 3, 6, 1, 1, 16, 64]);
     same(&rt, config.layouts.len(), 1);
     has_highest_limits(&rt, &config);
     has_fault(&rt, &config, None);
-    Ok(())
 }
 
 fn is_copy(rt: &impl Abort, copy: &Config, config: &Config) {
@@ -131,9 +127,8 @@ fn a_copy_has_the_same_values(rt: HostRuntime) -> Result<(), Fail> {
 }
 
 #[test]
-fn pages_stay_in_order(rt: HostRuntime) -> Result<(), Fail> {
-    let pages = PageList::new(vec![in rt.alloc(); 3, 1]?);
+fn pages_stay_in_order(rt: HostRuntime) {
+    let pages = PageList::new(done(&rt, vec![in rt.alloc(); 3, 1]));
     same(&rt, pages.as_slice(), [3, 1].as_slice());
     same(&rt, pages.into_vec().as_slice(), [3, 1].as_slice());
-    Ok(())
 }

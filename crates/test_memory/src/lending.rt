@@ -1,9 +1,8 @@
 //! Writes through borrowed words: a complete page, one page while another is read, and pieces of a slice.
 
-use crate::pages::{HeldStore, takes};
-use crate::same::{same, same_at};
+use crate::pages::takes;
+use crate::same::{done, same, same_at};
 use page::{Cutter, Store};
-use std::alloc::AllocError;
 use std::process::Abort;
 
 /// What `fill_pages` writes to page 1.
@@ -63,8 +62,7 @@ fn write_page(rt: &impl Abort, store: &mut Store) {
 }
 
 /// Writes to page 2, first with page 1 borrowed for reading, then alone.
-fn writes(rt: &impl Abort, mut held: impl HeldStore + Drop) {
-    let store = held.store();
+fn writes(rt: &impl Abort, store: &mut Store) {
     fill_pages(rt, store);
     lend_pages(rt, store);
     has_second(
@@ -77,9 +75,9 @@ fn writes(rt: &impl Abort, mut held: impl HeldStore + Drop) {
 }
 
 #[test]
-fn words_of_pages(rt: HostRuntime) -> Result<(), AllocError> {
-    writes(&rt, Store::new(rt.alloc(), 16, 4, 8)?);
-    Ok(())
+fn words_of_pages(rt: HostRuntime) {
+    let mut store = done(&rt, Store::new(rt.alloc(), 16, 4, 8));
+    writes(&rt, &mut store);
 }
 
 /// Writes one number over all words of a piece, which has `len` of them.

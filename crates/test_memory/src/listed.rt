@@ -1,15 +1,14 @@
 //! Forwarding tables compared with plain lists of their entries, which are searched by halving.
 
 use crate::bits::PAGE_SIZES;
-use crate::same::{same, same_at};
+use crate::same::{done, same, same_at};
 use crate::sides::side_of;
 use forward::Side;
 use markbits::Row;
 use model::Forwarding;
 use refword::Addr;
-use std::alloc::{AllocError, Global};
+use std::alloc::Global;
 use std::process::Abort;
-use std::test::Fail;
 use test_support_samples::scatter;
 
 /// Returns the number of the entry of an offset in a list whose offsets rise: 20 halvings are enough for any page.
@@ -99,40 +98,34 @@ fn finds_each(rt: &impl Abort, side: &Side, entries: &[Forwarding]) {
 
 /// Returns entries at some offsets of a page: at those for which a pseudorandom number has the bits of `mask` clear.
 /// Each goes anywhere in a range of 2^32 addresses, of which there is one for each 4,096 offsets.
-fn listed(alloc: Global, words: u32, mask: u64) -> Result<Vec<Forwarding>, Fail> {
+fn listed(rt: &impl Abort, alloc: Global, words: u32, mask: u64) -> Vec<Forwarding> {
     let mut entries = Vec::new(alloc);
     let mut number = u64::from(words);
     for offset in 0..words {
         number = scatter(number);
         let range = u64::from(offset / 4_096) << 32;
-        let to = Addr::new(range | number >> 32).ok_or("no address")?;
+        let to = done(rt, Addr::new(range | number >> 32).ok_or("no address"));
         if (number >> 33) & mask == 0 {
-            entries.push(Forwarding {
+            let entry = Forwarding {
                 offset,
                 to,
                 copied: false,
-            })?;
+            };
+            done(rt, entries.push(entry));
         }
     }
-    Ok(entries)
+    entries
 }
 
-/// Returns where the entries go.
-fn places(alloc: Global, entries: &[Forwarding]) -> Result<Vec<Addr>, AllocError> {
-    let mut places = Vec::with_capacity(alloc, entries.len())?;
+/// Returns the forwarding table of a page of `words` words with these entries.
+fn side(rt: &impl Abort, alloc: Global, words: u32, entries: &[Forwarding]) -> Side {
+    let mut places = Vec::new(alloc);
+    let mut live = done(rt, Row::new(alloc, words));
     for entry in entries {
-        places.push(entry.to)?;
-    }
-    Ok(places)
-}
-
-/// Returns the offsets of the entries in a page of `words` words.
-fn offsets(alloc: Global, words: u32, entries: &[Forwarding]) -> Result<Row, AllocError> {
-    let mut live = Row::new(alloc, words)?;
-    for entry in entries {
+        done(rt, places.push(entry.to));
         live.put(entry.offset as usize, true);
     }
-    Ok(live)
+    side_of(rt, alloc, live, places)
 }
 
 /// The list and the forwarding table of a page of `words` words have the same entries, also when some of them are
@@ -144,21 +137,18 @@ fn agree(rt: &impl Abort, words: u32, side: &mut Side, entries: &mut [Forwarding
 }
 
 /// Compares for a page of `words` words, some of which have entries.
-fn compares(rt: &impl Abort, alloc: Global, words: u32, mask: u64) -> Result<(), Fail> {
-    let mut entries = listed(alloc, words, mask)?;
-    let live = offsets(alloc, words, &entries)?;
-    let mut side = side_of(alloc, live, places(alloc, &entries)?)?;
+fn compares(rt: &impl Abort, alloc: Global, words: u32, mask: u64) {
+    let mut entries = listed(rt, alloc, words, mask);
+    let mut side = side(rt, alloc, words, &entries);
     agree(rt, words, &mut side, &mut entries);
-    Ok(())
 }
 
 /// Pages of each size: one that is full, one in four, and one in 64 words.
 #[test]
-fn side_arrays_go_along_with_lists(rt: HostRuntime) -> Result<(), Fail> {
+fn side_arrays_go_along_with_lists(rt: HostRuntime) {
     for words in PAGE_SIZES {
         for mask in [0, 3, 63] {
-            compares(&rt, rt.alloc(), words, mask)?;
+            compares(&rt, rt.alloc(), words, mask);
         }
     }
-    Ok(())
 }

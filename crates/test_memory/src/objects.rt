@@ -1,9 +1,8 @@
 //! Layouts of objects, their headers and parts.
 
-use crate::same::{same, same_at};
+use crate::same::{done, same, same_at};
 use layout::{Header, Layout, Layouts, birth_of, layout_of, split, split_header, split_parts};
 use std::process::Abort;
-use std::test::Fail;
 
 #[test]
 fn bits_of_a_header(rt: HostRuntime) {
@@ -32,17 +31,16 @@ fn has_two(rt: &impl Abort, table: &Layouts, second: Layout) {
 }
 
 #[test]
-fn a_table_of_two(rt: HostRuntime) -> Result<(), Fail> {
+fn a_table_of_two(rt: HostRuntime) {
     let small = Layout { refs: 0, nums: 0 };
     let large = Layout {
         refs: 1023,
         nums: 1023,
     };
     same(&rt, (small.size(), large.size()), (1, 2047));
-    let table = Layouts::new(vec![in rt.alloc(); small, large]?);
+    let table = Layouts::new(done(&rt, vec![in rt.alloc(); small, large]));
     has_two(&rt, &table, large);
     same(&rt, table.into_vec().len(), 2);
-    Ok(())
 }
 
 /// Fills the parts of an object. Returns how many references it has.

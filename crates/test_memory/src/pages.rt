@@ -1,6 +1,6 @@
 //! A store of pages, and the places of its buffers.
 
-use crate::same::{same, same_at};
+use crate::same::{done, same, same_at};
 use crate::sides::{live, side_of};
 use forward::Side;
 use layout::{Layout, Layouts};
@@ -10,31 +10,6 @@ use refword::Addr;
 use std::alloc::{AllocError, Global};
 use std::process::Abort;
 use std::test::Fail;
-
-/// A store that can be borrowed. Tests pass theirs as one, since a proof with a `Store` that lives over several calls
-/// takes long.
-pub trait HeldStore {
-    /// Borrows the store.
-    fn store(&mut self) -> &mut Store;
-}
-
-impl HeldStore for Store {
-    fn store(&mut self) -> &mut Store {
-        self
-    }
-}
-
-/// A forwarding table that can be borrowed, for the same reason.
-trait HeldSide {
-    /// Borrows the forwarding table.
-    fn side(&self) -> &Side;
-}
-
-impl HeldSide for Side {
-    fn side(&self) -> &Side {
-        self
-    }
-}
 
 /// Takes a buffer of a size that a page has.
 fn take(rt: &impl Abort, store: &mut Store, n: u32) -> Result<Buffer, Room> {
@@ -108,8 +83,7 @@ fn takes_or_lacks(
 }
 
 /// Buffers go into the lowest page that has space, until no frame is free.
-fn takes_lowest(rt: &impl Abort, mut held: impl HeldStore + Drop) -> Result<(), AllocError> {
-    let store = held.store();
+fn takes_lowest(rt: &impl Abort, store: &mut Store) -> Result<(), AllocError> {
     let rows = [(10, 1, 0), (7, 2, 0), (6, 1, 10), (9, 2, 7)];
     is_new(rt, store);
     let taken = takes_or_lacks(rt, store, &rows);
@@ -120,13 +94,12 @@ fn takes_lowest(rt: &impl Abort, mut held: impl HeldStore + Drop) -> Result<(), 
 
 #[test]
 fn takes_in_the_lowest_page(rt: HostRuntime) -> Result<(), Fail> {
-    takes_lowest(&rt, Store::new(rt.alloc(), 16, 2, 8)?)?;
-    Ok(())
+    let mut store = Store::new(rt.alloc(), 16, 2, 8)?;
+    Ok(takes_lowest(&rt, &mut store)?)
 }
 
 /// A buffer is given back, and the words of its page after it can be taken.
-fn gives_back(rt: &impl Abort, mut held: impl HeldStore + Drop) {
-    let store = held.store();
+fn gives_back(rt: &impl Abort, store: &mut Store) {
     if let Ok(buffer) = take(rt, store, 9) {
         store.give_back(buffer);
     }
@@ -135,30 +108,21 @@ fn gives_back(rt: &impl Abort, mut held: impl HeldStore + Drop) {
 }
 
 #[test]
-fn what_is_given_back_is_lost(rt: HostRuntime) -> Result<(), AllocError> {
-    gives_back(&rt, Store::new(rt.alloc(), 16, 1, 1)?);
-    Ok(())
+fn what_is_given_back_is_lost(rt: HostRuntime) {
+    let mut store = done(&rt, Store::new(rt.alloc(), 16, 1, 1));
+    gives_back(&rt, &mut store);
 }
 
 /// Takes buffers as `takes` does from a new store, after which no word can be taken.
-fn fills(
-    rt: &impl Abort,
-    made: Result<impl HeldStore + Drop, AllocError>,
-    rows: &[(u32, u32, u32)],
-    room: Room,
-    free: u32,
-) -> Result<(), AllocError> {
-    let mut held = made?;
-    let store = held.store();
+fn fills(rt: &impl Abort, store: &mut Store, rows: &[(u32, u32, u32)], room: Room, free: u32) {
     takes(rt, store, rows);
     is_full(rt, store, room, free);
-    Ok(())
 }
 
 #[test]
-fn refuses_for_want_of_pages(rt: HostRuntime) -> Result<(), AllocError> {
-    let made = Store::new(rt.alloc(), 16, 2, 1);
-    fills(&rt, made, &[(16, 1, 0)], Room::NoPages, 1)
+fn refuses_for_want_of_pages(rt: HostRuntime) {
+    let mut store = done(&rt, Store::new(rt.alloc(), 16, 2, 1));
+    fills(&rt, &mut store, &[(16, 1, 0)], Room::NoPages, 1);
 }
 
 /// Takes a buffer of `n` words in each of the pages 1 to 300.
@@ -170,21 +134,20 @@ fn takes_in_each(rt: &impl Abort, store: &mut Store, n: u32, next: u32) {
 
 /// Each first buffer leaves one word, so that the next needs a page of its own; then the words that were left are
 /// taken from the lowest page on.
-fn fills_pages(rt: &impl Abort, mut held: impl HeldStore + Drop) {
-    let store = held.store();
+fn fills_pages(rt: &impl Abort, store: &mut Store) {
     takes_in_each(rt, store, 15, 0);
     takes_in_each(rt, store, 1, 15);
     is_full(rt, store, Room::NoFrames, 0);
 }
 
 #[test]
-fn fills_many_pages(rt: HostRuntime) -> Result<(), AllocError> {
-    fills_pages(&rt, Store::new(rt.alloc(), 16, 300, 700)?);
-    Ok(())
+fn fills_many_pages(rt: HostRuntime) {
+    let mut store = done(&rt, Store::new(rt.alloc(), 16, 300, 700));
+    fills_pages(&rt, &mut store);
 }
 
 #[test]
-fn takes_in_a_lower_page_that_has_room(rt: HostRuntime) -> Result<(), AllocError> {
+fn takes_in_a_lower_page_that_has_room(rt: HostRuntime) {
     let rows = [
         (10, 1, 0),
         (12, 2, 0),
@@ -197,19 +160,18 @@ fn takes_in_a_lower_page_that_has_room(rt: HostRuntime) -> Result<(), AllocError
         (16, 5, 0),
         (15, 4, 1),
     ];
-    let made = Store::new(rt.alloc(), 16, 5, 5);
-    fills(&rt, made, &rows, Room::NoFrames, 0)
+    let mut store = done(&rt, Store::new(rt.alloc(), 16, 5, 5));
+    fills(&rt, &mut store, &rows, Room::NoFrames, 0);
 }
 
 /// Also writes past the ends of two buffers of page 1.
-fn writes(rt: &impl Abort, store: &mut Store) -> Result<(), Room> {
-    let first = take(rt, store, 3)?;
-    let second = take(rt, store, 2)?;
+fn writes(rt: &impl Abort, store: &mut Store) {
+    let first = done(rt, take(rt, store, 3));
+    let second = done(rt, take(rt, store, 2));
     fill(rt, store, &second, 9);
     fill(rt, store, &first, 7);
     store.set_word(16 + 1, 8);
     store.set_word(2 * 16, 6);
-    Ok(())
 }
 
 /// The words of page 1.
@@ -225,17 +187,16 @@ fn has_words(rt: &impl Abort, store: &Store) {
     }
 }
 
-fn writes_and_reads(rt: &impl Abort, mut held: impl HeldStore + Drop) {
-    let store = held.store();
-    same(rt, writes(rt, store), Ok(()));
+fn writes_and_reads(rt: &impl Abort, store: &mut Store) {
+    writes(rt, store);
     written(rt, store);
     has_words(rt, store);
 }
 
 #[test]
-fn writes_where_a_buffer_is(rt: HostRuntime) -> Result<(), AllocError> {
-    writes_and_reads(&rt, Store::new(rt.alloc(), 16, 2, 8)?);
-    Ok(())
+fn writes_where_a_buffer_is(rt: HostRuntime) {
+    let mut store = done(&rt, Store::new(rt.alloc(), 16, 2, 8));
+    writes_and_reads(&rt, &mut store);
 }
 
 /// Pages 1 and 2 are taken completely, and the words 1 to 16 are written to page 1.
@@ -246,21 +207,15 @@ fn counts(rt: &impl Abort, store: &mut Store) {
     }
 }
 
-/// Places on page 2: past its end, inside, and further inside.
-fn places(alloc: Global) -> Result<Vec<Addr>, AllocError> {
-    let mut places = Vec::with_capacity(alloc, 3)?;
+/// Objects that go to places on page 2, past its end, inside and further inside; the last from past the end of its
+/// own.
+fn three(rt: &impl Abort, alloc: Global) -> Side {
+    let mut places = Vec::new(alloc);
     for offset in [14, 1, 8] {
-        if let Some(place) = Addr::new(2 * 16 + offset) {
-            places.push(place)?;
-        }
+        let place = done(rt, Addr::new(2 * 16 + offset).ok_or("no address"));
+        done(rt, places.push(place));
     }
-    Ok(places)
-}
-
-/// Objects that go to page 2: the first past its end, the last from past the end of its own.
-fn three(alloc: Global) -> Result<Side, Fail> {
-    let places = places(alloc)?;
-    side_of(alloc, live(alloc, &[0, 2, 14])?, places)
+    side_of(rt, alloc, live(rt, alloc, &[0, 2, 14]), places)
 }
 
 /// Objects of three words are copied between pages, if both places exist, and nowhere else.
@@ -276,32 +231,12 @@ fn copies(rt: &impl Abort, store: &mut Store, side: &Side, layouts: &Layouts) {
     same(rt, store.words(2), Some(target.as_slice()));
 }
 
-/// Pages 1 and 2 are filled, and such objects are copied.
-fn counts_and_copies(
-    rt: &impl Abort,
-    mut held: impl HeldStore + Drop,
-    side: &Side,
-    layouts: &Layouts,
-) {
-    let store = held.store();
-    counts(rt, store);
-    copies(rt, store, side, layouts);
-}
-
-/// They are copied in a store of their own.
-fn copied(
-    rt: &impl Abort,
-    alloc: Global,
-    side: impl HeldSide + Drop,
-    layouts: &Layouts,
-) -> Result<(), AllocError> {
-    counts_and_copies(rt, Store::new(alloc, 16, 2, 8)?, side.side(), layouts);
-    Ok(())
-}
-
 #[test]
-fn objects_are_copied_between_pages(rt: HostRuntime) -> Result<(), Fail> {
-    let layouts = Layouts::new(vec![in rt.alloc(); Layout { refs: 0, nums: 2 }]?);
-    copied(&rt, rt.alloc(), three(rt.alloc())?, &layouts)?;
-    Ok(())
+fn objects_are_copied_between_pages(rt: HostRuntime) {
+    let layouts = vec![in rt.alloc(); Layout { refs: 0, nums: 2 }];
+    let layouts = Layouts::new(done(&rt, layouts));
+    let side = three(&rt, rt.alloc());
+    let mut store = done(&rt, Store::new(rt.alloc(), 16, 2, 8));
+    counts(&rt, &mut store);
+    copies(&rt, &mut store, &side, &layouts);
 }

@@ -1,6 +1,6 @@
 //! Bitmaps, and lists of copies, made if there is memory.
 
-use crate::same::{same, same_at};
+use crate::same::{done, same, same_at};
 use markbits::{IndexedRow, IndexedRows, Row, Rows};
 use page::many;
 use std::alloc::{AllocError, Global};
@@ -45,19 +45,18 @@ fn clear_indexed_rows(alloc: Global, count: u32, words: u32) -> Result<IndexedRo
 }
 
 #[test]
-fn rows_that_are_empty_first(rt: HostRuntime) -> Result<(), Fail> {
-    let mut rows = Rows::new(rt.alloc(), 2)?;
+fn rows_that_are_empty_first(rt: HostRuntime) {
+    let mut rows = done(&rt, Rows::new(rt.alloc(), 2));
     rows.put(0, 0, true);
     has_counts(&rt, &rows, &[0, 0]);
-    rows.place(1, Row::new(rt.alloc(), 16)?);
-    rows.place(2, Row::new(rt.alloc(), 16)?);
+    rows.place(1, done(&rt, Row::new(rt.alloc(), 16)));
+    rows.place(2, done(&rt, Row::new(rt.alloc(), 16)));
     rows.put(1, 15, true);
     has_counts(&rt, &rows, &[0, 1]);
     rows.give_up(1, &mut 0);
     rows.give_up(2, &mut 0);
     rows.put(1, 15, true);
     has_counts(&rt, &rows, &[0, 0]);
-    Ok(())
 }
 
 #[test]
@@ -117,8 +116,8 @@ fn are_found(rt: &impl Abort, row: &IndexedRow, places: &[u32]) {
 }
 
 #[test]
-fn a_long_row_with_an_index(rt: HostRuntime) -> Result<(), Fail> {
-    let mut row = IndexedRow::new(rt.alloc(), 1_048_575)?;
+fn a_long_row_with_an_index(rt: HostRuntime) {
+    let mut row = done(&rt, IndexedRow::new(rt.alloc(), 1_048_575));
     are_found(&rt, &row, &[]);
     for place in FAR {
         row.put(place as usize, true);
@@ -128,7 +127,6 @@ fn a_long_row_with_an_index(rt: HostRuntime) -> Result<(), Fail> {
         row.put(*place as usize, false);
     }
     are_found(&rt, &row, &[0, 1_048_574]);
-    Ok(())
 }
 
 #[test]
@@ -185,12 +183,11 @@ fn loses_rows(rt: &impl Abort, rows: &mut IndexedRows) {
 }
 
 #[test]
-fn busy_rows_of_a_large_table(rt: HostRuntime) -> Result<(), Fail> {
-    let mut rows = clear_indexed_rows(rt.alloc(), 8_192, 16)?;
+fn busy_rows_of_a_large_table(rt: HostRuntime) {
+    let mut rows = done(&rt, clear_indexed_rows(rt.alloc(), 8_192, 16));
     let busy = [0, 1, 63, 64, 127, 128, 4_095, 4_096, 4_159, 8_191];
     finds_rows(&rt, &mut rows, &busy);
     loses_rows(&rt, &mut rows);
-    Ok(())
 }
 
 #[test]

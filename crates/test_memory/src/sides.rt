@@ -1,23 +1,22 @@
 //! Plans compared with a loop that places objects by hand, and forwarding tables.
 
-use crate::same::{same, same_at};
+use crate::same::{done, same, same_at};
 use forward::{Plan, Side, Sides};
 use markbits::Row;
 use refword::Addr;
-use std::alloc::{AllocError, Global};
+use std::alloc::Global;
 use std::process::Abort;
-use std::test::Fail;
 use test_support_samples::scatter;
 
 /// Returns `count` pseudorandom sizes, from 1 on.
-fn sizes(alloc: Global, count: u32, most: u32) -> Result<Vec<u32>, AllocError> {
-    let mut sizes = Vec::with_capacity(alloc, count as usize)?;
+fn sizes(rt: &impl Abort, alloc: Global, count: u32, most: u32) -> Vec<u32> {
+    let mut sizes = Vec::new(alloc);
     let mut number = u64::from(most);
     for _ in 0..count {
         number = scatter(number);
-        sizes.push((number >> 33) as u32 % most.max(1) + 1)?;
+        done(rt, sizes.push((number >> 33) as u32 % most.max(1) + 1));
     }
-    Ok(sizes)
+    sizes
 }
 
 /// The target and the offset of an object in a plan.
@@ -36,28 +35,22 @@ fn has_places(rt: &impl Abort, plan: &Plan, places: &[(usize, u32)], targets: us
 }
 
 /// A plan of objects of these sizes, on pages of 16 words, has these places and no more.
-fn places(
-    rt: &impl Abort,
-    alloc: Global,
-    sizes: &[u32],
-    places: &[(usize, u32)],
-    targets: usize,
-) -> Result<(), AllocError> {
-    has_places(rt, &Plan::new(alloc, 16, sizes)?, places, targets);
-    Ok(())
+fn places(rt: &impl Abort, alloc: Global, sizes: &[u32], places: &[(usize, u32)], targets: usize) {
+    let plan = done(rt, Plan::new(alloc, 16, sizes));
+    has_places(rt, &plan, places, targets);
 }
 
 /// In the last, an object that would fit into an earlier target goes after the last one.
 #[test]
-fn small_plans(rt: HostRuntime) -> Result<(), AllocError> {
+fn small_plans(rt: HostRuntime) {
     let alloc: Global = rt.alloc();
-    places(&rt, alloc, &[], &[], 0)?;
+    places(&rt, alloc, &[], &[], 0);
     let whole = [(0, 0), (1, 0), (2, 0)];
-    places(&rt, alloc, &[16, 16, 16], &whole, 3)?;
+    places(&rt, alloc, &[16, 16, 16], &whole, 3);
     let filled = [(0, 0), (0, 10), (1, 0), (1, 7), (2, 0)];
-    places(&rt, alloc, &[10, 6, 7, 9, 1], &filled, 3)?;
+    places(&rt, alloc, &[10, 6, 7, 9, 1], &filled, 3);
     let behind = [(0, 0), (1, 0), (2, 0), (2, 5), (2, 9)];
-    places(&rt, alloc, &[10, 12, 5, 4, 6], &behind, 3)
+    places(&rt, alloc, &[10, 12, 5, 4, 6], &behind, 3);
 }
 
 /// Each object follows the one before it, or is at the beginning of the next target if the rest of the present one is
@@ -79,46 +72,45 @@ fn follows(rt: &impl Abort, plan: &Plan, words: u32, sizes: &[u32]) {
 }
 
 /// A plan of 2,000 objects, on pages of a number of words.
-fn plans(rt: &impl Abort, alloc: Global, words: u32, most: u32) -> Result<(), AllocError> {
-    let sizes = sizes(alloc, 2000, most)?;
-    follows(rt, &Plan::new(alloc, words, &sizes)?, words, &sizes);
-    Ok(())
+fn plans(rt: &impl Abort, alloc: Global, words: u32, most: u32) {
+    let sizes = sizes(rt, alloc, 2000, most);
+    let plan = done(rt, Plan::new(alloc, words, &sizes));
+    follows(rt, &plan, words, &sizes);
 }
 
 #[test]
-fn plans_beside_a_loop(rt: HostRuntime) -> Result<(), AllocError> {
+fn plans_beside_a_loop(rt: HostRuntime) {
     for (words, most) in [(16, 16), (16, 5), (64, 33), (512, 512), (4096, 256)] {
-        plans(&rt, rt.alloc(), words, most)?;
+        plans(&rt, rt.alloc(), words, most);
     }
-    Ok(())
 }
 
 const OFFSETS: [u32; 5] = [0, 3, 4, 9, 15];
 
 /// Returns a bitmap of 16 places, of which these are set.
-pub fn live(alloc: Global, offsets: &[u32]) -> Result<Row, AllocError> {
-    let mut live = Row::new(alloc, 16)?;
+pub fn live(rt: &impl Abort, alloc: Global, offsets: &[u32]) -> Row {
+    let mut live = done(rt, Row::new(alloc, 16));
     for offset in offsets {
         live.put(*offset as usize, true);
     }
-    Ok(live)
+    live
 }
 
 /// Returns a forwarding table for a page's bitmap, with a place for each object.
-pub fn side_of(alloc: Global, live: Row, places: Vec<Addr>) -> Result<Side, Fail> {
+pub fn side_of(rt: &impl Abort, alloc: Global, live: Row, places: Vec<Addr>) -> Side {
     if live.len() > 32_768 || live.count() != places.len() {
-        return Err("another row".into());
+        panic!(rt; "another row");
     }
-    Ok(Side::new(alloc, live, places)?)
+    done(rt, Side::new(alloc, live, places))
 }
 
 /// A forwarding table of objects at these offsets, of which the one at 4 is copied.
-fn five(alloc: Global, to: u64) -> Result<Side, Fail> {
-    let to = Addr::new(to).ok_or("no address")?;
-    let places = vec![in alloc; to; OFFSETS.len()]?;
-    let mut side = side_of(alloc, live(alloc, &OFFSETS)?, places)?;
+fn five(rt: &impl Abort, alloc: Global, to: u64) -> Side {
+    let to = done(rt, Addr::new(to).ok_or("no address"));
+    let places = done(rt, vec![in alloc; to; OFFSETS.len()]);
+    let mut side = side_of(rt, alloc, live(rt, alloc, &OFFSETS), places);
     side.set_copied(4);
-    Ok(side)
+    side
 }
 
 /// What is found at offsets, and between and after them.
@@ -163,12 +155,11 @@ fn copies(rt: &impl Abort, side: &mut Side) {
 }
 
 #[test]
-fn a_side_array(rt: HostRuntime) -> Result<(), Fail> {
-    let mut side = five(rt.alloc(), 32)?;
+fn a_side_array(rt: HostRuntime) {
+    let mut side = five(&rt, rt.alloc(), 32);
     finds(&rt, &side, &OFFSETS);
     copies(&rt, &mut side);
     finds(&rt, &side, &OFFSETS);
-    Ok(())
 }
 
 #[test]
@@ -204,15 +195,15 @@ fn goes_far(rt: &impl Abort, side: &Side) {
 }
 
 #[test]
-fn a_side_array_of_far_places(rt: HostRuntime) -> Result<(), Fail> {
+fn a_side_array_of_far_places(rt: HostRuntime) {
     let alloc = rt.alloc();
-    let mut places = Vec::with_capacity(alloc, FAR.len())?;
+    let mut places = Vec::new(alloc);
     for (_offset, to) in FAR {
-        places.push(Addr::new(to).ok_or("no address")?)?;
+        let place = done(&rt, Addr::new(to).ok_or("no address"));
+        done(&rt, places.push(place));
     }
-    let side = side_of(alloc, live(alloc, &OFFSETS)?, places)?;
+    let side = side_of(&rt, alloc, live(&rt, alloc, &OFFSETS), places);
     goes_far(&rt, &side);
-    Ok(())
 }
 
 const PAGES: [u32; 6] = [0, 1, 2, 3, 4, u32::MAX];
@@ -232,20 +223,13 @@ fn copied(sides: &Sides) -> [bool; 6] {
     PAGES.map(|page| sides.is_copied(page))
 }
 
-/// The objects of a page go to this place.
-fn put_five(alloc: Global, sides: &mut Sides, index: usize, to: u64) -> Result<(), Fail> {
-    sides.put(index, five(alloc, to)?);
-    Ok(())
-}
-
-/// Pages 1 and 3 of three are protected; there is no page 10.
-fn protects(rt: &impl Abort, alloc: Global, sides: &mut Sides) -> Result<(), Fail> {
+/// Pages 1 and 3 of three are protected; there is no page 10. The objects of each go to one place.
+fn protects(rt: &impl Abort, alloc: Global, sides: &mut Sides) {
     same(rt, (sides.uncopied(), copied(sides)), (0, [true; 6]));
-    put_five(alloc, sides, 0, 32)?;
-    put_five(alloc, sides, 2, 48)?;
-    put_five(alloc, sides, 9, 96)?;
+    for (index, to) in [(0, 32), (2, 48), (9, 96)] {
+        sides.put(index, five(rt, alloc, to));
+    }
     is_protected(rt, sides);
-    Ok(())
 }
 
 /// What is found of them then.
@@ -291,34 +275,12 @@ fn clears(rt: &impl Abort, sides: &mut Sides) {
     same(rt, there, (true, false));
 }
 
-/// Forwarding tables that can be borrowed. Tests pass theirs as these, since a proof with `Sides` that live over
-/// several calls takes long.
-trait HeldSides {
-    /// Borrows the forwarding tables.
-    fn sides(&mut self) -> &mut Sides;
-}
-
-impl HeldSides for Sides {
-    fn sides(&mut self) -> &mut Sides {
-        self
-    }
-}
-
 /// They are put, marked as copied, and cleared.
-fn changes_sides(
-    rt: &impl Abort,
-    alloc: Global,
-    mut held: impl HeldSides + Drop,
-) -> Result<(), Fail> {
-    let sides = held.sides();
-    protects(rt, alloc, sides)?;
-    copies_of_pages(rt, sides);
-    put_five(alloc, sides, 0, 64)?;
-    clears(rt, sides);
-    Ok(())
-}
-
 #[test]
-fn side_arrays_of_pages(rt: HostRuntime) -> Result<(), Fail> {
-    changes_sides(&rt, rt.alloc(), Sides::new(rt.alloc(), 3)?)
+fn side_arrays_of_pages(rt: HostRuntime) {
+    let mut sides = done(&rt, Sides::new(rt.alloc(), 3));
+    protects(&rt, rt.alloc(), &mut sides);
+    copies_of_pages(&rt, &mut sides);
+    sides.put(0, five(&rt, rt.alloc(), 64));
+    clears(&rt, &mut sides);
 }
