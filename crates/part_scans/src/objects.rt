@@ -160,8 +160,8 @@ fn end_scan(pages: &mut [OwnedPage], index: usize, offset: usize)
     }
 }
 
-/// Scans the object at an offset of a page completely, if it is marked and grey, its references are on the page and lead
-/// to pages, and there is space for as many notes. Returns how many references it has, or `None` if it is left.
+/// Scans the object at an offset of a page completely, if it is marked and grey, its references are on the page and
+/// lead to pages, and there is space for as many notes. Returns how many references it has, or `None` if it is left.
 #[inline(always)]
 #[tactic(auto, unfolding(crate::specs::Scans::scan_own))]
 pub(crate) fn scan_object(

@@ -106,8 +106,9 @@ fn scan_pages(
     done
 }
 
-/// Scans grey objects of a part, at most `most`, and counts them. Those that it marks on its own pages are scanned next;
-/// of those on other pages it adds notes, for which it takes no memory: an object whose notes have no space stays grey.
+/// Scans grey objects of a part, at most `most`, and counts them. Those that it marks on its own pages are scanned
+/// next; of those on other pages it adds notes, for which it takes no memory: an object whose notes have no space stays
+/// grey.
 pub fn scan_part(scene: &Scene<'_>, part: &mut Part, most: u64)
     ensures scanned { PartScanned scene.now part.old part.new }
     ensures few { part.new.scanned ≤ most }
