@@ -98,8 +98,8 @@ pub(crate) fn list_grey(
     Ok(())
 }
 
-/// Returns whether no more than half of the grey objects are on the pages of one part, of which there are as many as
-/// threads: else a wave would keep one thread busy alone.
+/// Returns whether no more than two thirds of the grey objects are on the pages of one part, of which there are as many
+/// as threads: else a wave would keep one thread busy alone.
 pub(crate) fn are_spread(heap: &Heap, extent: Extent, threads: u32) -> bool {
     let size = extent.used.div_ceil(threads.max(1) as usize).max(1);
     let mut most = 0u64;
@@ -113,5 +113,5 @@ pub(crate) fn are_spread(heap: &Heap, extent: Extent, threads: u32) -> bool {
             here = here.saturating_add(row.count() as u64);
         }
     }
-    most.max(here) <= extent.objects / 2
+    most.max(here) <= extent.objects.saturating_sub(extent.objects / 3)
 }
