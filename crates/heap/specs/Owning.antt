@@ -91,7 +91,7 @@ AreLent h (p ∷ ps) (l ∷ ls) =
     (l ≡ record p { pages = l.pages }) × (length l.pages.items ≡ length p.pages.items)
     × ArePagesOf h p.first l.pages.items × AreLent h ps ls
 
--- objects of each part were scanned, at most so many
+-- objects of each part were scanned, at most this number
 abbrev pub AllScanned : SceneState → ℕ → List Part → List Part → Type 0
 AllScanned s most [] [] = Unit {0}
 AllScanned s most [] (q ∷ qs) = true ≡ false
@@ -116,7 +116,7 @@ pub record ScansStore (s : SceneState) (most : ℕ) (t : StoreState) (parts : Li
   pub give : SwappedParts t.pages between left u.frames after
   pub same : u ≡ record t { frames = u.frames }
 
--- objects of parts were scanned, of each at most so many, and the heap has the words and the bitmaps that are left
+-- objects of parts were scanned, of each at most this number, and the heap has the words and the bitmaps that result
 pub record ScansParts (h : HeapState) (most : ℕ) (parts : List Part) (g : HeapState) (after : List Part) : Type 0 where
   pub lent : List Part
   pub left : List Part

@@ -104,7 +104,7 @@ bits_keep s first ps i o x (Some (suc b)) l =
     target_keeps s first (change_at ps i (write_on o (bits_of v))) v i x
     ∙ word_kept ps i i x (write_on o (bits_of v)) (λ p. write_keeps_word x o (bits_of v) p l)
 
--- words behind one that is marked stay
+-- words after one that is marked stay
 pub word_keeps : (s : SceneState) (first : ℕ) (ps : List OwnedPage) (i o x : ℕ) → o < x
     → word_of (mark_word s first ps i o) i x ≡ word_of ps i x
 unfolding mark_word

@@ -44,7 +44,7 @@ abbrev pub AreUnsent : List Part → Type 0
 AreUnsent [] = Unit {0}
 AreUnsent (p ∷ ps) = (p.sent.items ≡ []) × AreUnsent ps
 
--- of each part at most so many objects were scanned
+-- of each part at most this number of objects were scanned
 abbrev pub AreFew : ℕ → List Part → Type 0
 AreFew most [] = Unit {0}
 AreFew most (p ∷ ps) = (p.scanned ≤ most) × AreFew most ps

@@ -238,13 +238,13 @@ fn scan_by<R: Threads + Sync>(rt: &R, heap: &mut Heap, worker: u32, most: u64, t
     done
 }
 
-/// Drains the rest of a mark by a worker that is ready, as `drain` does, with the same result for the heap, on a
-/// number of threads: while many objects are grey, all of them are scanned at once, in waves. What they refer to is
-/// read on threads, each for some of the pages; references are written on threads, each in some of the frames; and
-/// objects are marked on threads, each for some of the pages.
+/// Drains the rest of a mark by a worker that is ready, as `drain` does, at most `most` objects, on a number of threads,
+/// and returns how many objects were scanned. While many objects are grey, on pages of several parts, there are waves:
+/// each thread scans and marks objects of its own part of the pages, and sends references to objects of other parts,
+/// which are marked after the wave.
 ///
-/// With fewer than two threads, if memory runs out for what a wave has read, or if a thread can't be started, this
-/// thread does the work.
+/// With fewer than two threads, or if out of memory for a wave, this thread does the work; and the part of a thread that
+/// can't be started.
 pub fn drain_by<R: Threads + Sync>(
     rt: &R,
     heap: &mut Heap,
