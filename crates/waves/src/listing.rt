@@ -11,9 +11,7 @@ use std::alloc::{AllocError, Global};
 pub(crate) struct Extent {
     /// How many objects are grey.
     pub objects: u64,
-    /// The index of the first page with a grey object.
-    pub first: usize,
-    /// The index after the last one.
+    /// The index after the last page with a grey object.
     pub end: usize,
     /// The index after the last page that has a bitmap.
     pub used: usize,
@@ -30,11 +28,6 @@ fn with_page(extent: Extent, index: usize, objects: usize) -> Extent {
     }
     Extent {
         objects: extent.objects.saturating_add(objects as u64),
-        first: if extent.objects == 0 {
-            index
-        } else {
-            extent.first
-        },
         end: next,
         used: next,
     }
@@ -44,7 +37,6 @@ fn with_page(extent: Extent, index: usize, objects: usize) -> Extent {
 pub(crate) fn extent_of(heap: &Heap) -> Extent {
     let mut extent = Extent {
         objects: 0,
-        first: 0,
         end: 0,
         used: 0,
     };

@@ -71,7 +71,7 @@ pub(crate) fn total(parts: &[Part], each: u64) -> u64
     done
 }
 
-/// Returns whether no part has scanned more than half of all objects.
+/// Returns whether no part has scanned more than two thirds of all objects: of two parts one always has half of them.
 pub(crate) fn are_balanced(parts: &[Part]) -> bool {
     let mut all = 0u64;
     let mut most = 0u64;
@@ -80,5 +80,5 @@ pub(crate) fn are_balanced(parts: &[Part]) -> bool {
         all = all.saturating_add(part.scanned);
         most = most.max(part.scanned);
     }
-    most <= all / 2
+    most <= all.saturating_sub(all / 3)
 }

@@ -37,7 +37,7 @@ struct Course {
     before: u64,
     /// How many objects are scanned in the next portion.
     portion: u64,
-    /// Whether that portion is next, as one part had most of the objects of the last wave.
+    /// Whether that portion is next, as one part had more than two thirds of the objects, in the last wave or before one.
     is_uneven: bool,
 }
 
