@@ -5,7 +5,7 @@ use Rattle.std.proofs.lemmas.Option.{same_Some}
 use Rattle.model.specs.declared.records.Page.{Page}
 use Rattle.model.specs.Holding.{AreRowsOf, IsHeap}
 use Rattle.model.specs.Owning.{IsStore}
-use Rattle.model.specs.States.{HeapState}
+use Rattle.model.specs.States.{Reference, HeapState}
 use Rattle.model.specs.Stores.{StoreState, page_at}
 use Rattle.page.specs.declared.owned.OwnedPage.{OwnedPage}
 use Rattle.page.specs.declared.owned.Part.{Part}
@@ -146,14 +146,14 @@ matched_then (p ∷ ps) (q ∷ qs) (r ∷ rs) a b = (a.0 ∙ b.0, a.1 ∙ b.1, m
 -- ---- the heap in the end
 
 -- what was done to a heap: bitmaps were swapped, parts scanned, and bitmaps swapped again
-pub record HasOwned (h : HeapState) (most : ℕ) (parts : List Part) (t : StoreState) (m g : List (List Bool))
+pub record HasOwned (h : HeapState) (notes : List Reference) (most : ℕ) (parts : List Part) (t : StoreState) (m g : List (List Bool))
     (after : List Part) : Type 0 where
   pub mark : List (List Bool)
   pub todo : List (List Bool)
   pub given : List Part
   pub back : List Part
   pub take : SwappedRowsOf h.mark h.todo parts mark todo given
-  pub scans : ScansStore (scene_of h) most h.store given t back
+  pub scans : ScansStore (scene_of h) notes most h.store given t back
   pub give : SwappedRowsOf mark todo back m g after
 
 pub placed_given : (h : HeapState) (parts given : List Part) (m g : List (List Bool))
@@ -168,16 +168,16 @@ pub record AreChained (parts given after returned : List Part) : Type 0 where
   pub whole : AreMatched parts after
   pub back : AreMatched parts returned
 
-pub chained : (h : HeapState) (most : ℕ) (parts given : List Part) (m g : List (List Bool)) (t : StoreState)
+pub chained : (h : HeapState) (notes : List Reference) (most : ℕ) (parts given : List Part) (m g : List (List Bool)) (t : StoreState)
     (back : List Part) → IsStore h.store → AreBlank parts → ArePlaced (length h.store.pages) 0 parts
-    → SwappedRowsOf h.mark h.todo parts m g given → (k : ScansStore (scene_of h) most h.store given t back)
+    → SwappedRowsOf h.mark h.todo parts m g given → (k : ScansStore (scene_of h) notes most h.store given t back)
     → AreChained parts given k.left back
-chained h most parts given m g t back s b p rows k =
+chained h notes most parts given m g t back s b p rows k =
     let first = rows_matched h.mark h.todo parts m g given rows in
     let worded = are_worded h.store.pages h.store.frames (length h.store.pages) given k.between k.lent k.left
     (own_frames h.store s) (rows_wordless h.mark h.todo parts m g given b rows)
     (placed_given h parts given m g p rows) k.take
-    (scanned_sized (scene_of h) most k.lent k.left k.scanned) in
+    (scanned_sized (scene_of h) notes most k.lent k.left k.scanned) in
     let kept = parts_kept h.store.pages k.between k.left t.frames back k.give in
     let whole = matched_then parts given k.left first worded.matched in
     record {
@@ -186,27 +186,27 @@ chained h most parts given m g t back s b p rows k =
       back = matched_then parts k.left back whole kept.matched;
     }
 
-pub record IsOwned (h : HeapState) (most : ℕ) (parts : List Part) (t : StoreState) (m g : List (List Bool))
+pub record IsOwned (h : HeapState) (notes : List Reference) (most : ℕ) (parts : List Part) (t : StoreState) (m g : List (List Bool))
     (after : List Part) : Type 0 where
-  pub scans : ScansParts h most parts (record h { store = t; mark = m; todo = g }) after
+  pub scans : ScansParts h notes most parts (record h { store = t; mark = m; todo = g }) after
   pub frames : length t.frames ≡ length h.store.frames
   pub same : t ≡ record h.store { frames = t.frames }
   pub marks : map length m ≡ map length h.mark
   pub greys : map length g ≡ map length h.todo
 
-pub owned : (h : HeapState) (most : ℕ) (parts : List Part) (t : StoreState) (m g : List (List Bool))
+pub owned : (h : HeapState) (notes : List Reference) (most : ℕ) (parts : List Part) (t : StoreState) (m g : List (List Bool))
     (after : List Part) → IsStore h.store → AreBlank parts → ArePlaced (length h.store.pages) 0 parts
-    → HasOwned h most parts t m g after → IsOwned h most parts t m g after
-owned h most parts t m g after s b p k =
+    → HasOwned h notes most parts t m g after → IsOwned h notes most parts t m g after
+owned h notes most parts t m g after s b p k =
     let own = own_frames h.store s in
     let slot = frame_slot h.store.pages in
     let left : List Part = k.scans.left in
-    let chain = chained h most parts k.given k.mark k.todo t k.back s b p k.take k.scans in
+    let chain = chained h notes most parts k.given k.mark k.todo t k.back s b p k.take k.scans in
     let kept = parts_kept h.store.pages k.scans.between left t.frames k.back k.scans.give in
     let lent = parts_lent h (length h.store.pages) parts k.mark k.todo k.given k.scans.between k.scans.lent own b p
     k.take k.scans.take in
     let long = parts_long h parts k.scans.lent left lent
-    (scanned_sized (scene_of h) most k.scans.lent left k.scans.scanned) in
+    (scanned_sized (scene_of h) notes most k.scans.lent left k.scans.scanned) in
     let frames : t.frames ≡ puts slot h.store.frames (flat_parts words_in left) =
     frames_after h.store.pages h.store.frames (length h.store.pages) k.given k.scans.between k.scans.lent left
     t.frames k.back own (placed_given h parts k.given k.mark k.todo p k.take) k.scans.take chain.left k.scans.give in
@@ -243,11 +243,11 @@ owned h most parts t m g after s b p k =
       greys = ap (map length) greys ∙ puts_sized row_slot h.todo (flat_parts greys_in left) long.2;
     }
 
-pub owned_heap : (h : HeapState) (most : ℕ) (parts : List Part) (t : StoreState) (m g : List (List Bool))
-    (after : List Part) → IsHeap h → IsOwned h most parts t m g after
+pub owned_heap : (h : HeapState) (notes : List Reference) (most : ℕ) (parts : List Part) (t : StoreState) (m g : List (List Bool))
+    (after : List Part) → IsHeap h → IsOwned h notes most parts t m g after
     → IsHeap (record h { store = t; mark = m; todo = g })
 unfolding page_at
-owned_heap h most parts t m g after i k =
+owned_heap h notes most parts t m g after i k =
     let u : StoreState = record h.store { frames = t.frames } in
     let one = store_keeps h u i (record { words = refl; count = refl; frames = k.frames }) refl
     (λ b lies. record { page = lies.page; order = lies.order; end = lies.end }) (λ none. none) in

@@ -5,6 +5,7 @@ use Rattle.std.specs.List.{slice_get}
 use Rattle.std.proofs.lemmas.Option.{same_Some}
 use Rattle.model.specs.declared.records.Page.{Page}
 use Rattle.model.specs.Owning.{IsStore}
+use Rattle.model.specs.States.{Reference}
 use Rattle.std.specs.Prelude.{if◌then◌else◌}
 use Rattle.model.specs.Stores.{StoreState, frame_in, record_count}
 use Rattle.page.specs.declared.owned.OwnedPage.{OwnedPage}
@@ -35,17 +36,17 @@ own_frames s h i j f a b = by_pages (slice_get s.pages i) (slice_get s.pages j) 
 
 -- ---- what each thread does
 
-pub each_scanned : (s : SceneState) (most : ℕ) (ps qs : List Part) → length qs ≡ length ps
+pub each_scanned : (s : SceneState) (notes : List Reference) (most : ℕ) (ps qs : List Part) → length qs ≡ length ps
     → ((i : ℕ) (d : Part) → i < length ps
-    → PartScanned s (get_or ps i d) (get_or qs i d) × ((get_or qs i d).scanned ≤ most)) → AllScanned s most ps qs
-each_scanned s most [] [] e k = tt
-each_scanned s most [] (q ∷ qs) e k = absurd (cc)
-each_scanned s most (p ∷ ps) [] e k = absurd (cc)
-each_scanned s most (p ∷ ps) (q ∷ qs) e k =
+    → PartScanned s notes (get_or ps i d) (get_or qs i d) × ((get_or qs i d).scanned ≤ most)) → AllScanned s notes most ps qs
+each_scanned s notes most [] [] e k = tt
+each_scanned s notes most [] (q ∷ qs) e k = absurd (cc)
+each_scanned s notes most (p ∷ ps) [] e k = absurd (cc)
+each_scanned s notes most (p ∷ ps) (q ∷ qs) e k =
     let here = k 0 p (omega arith) in (
       here.0,
       here.1,
-      each_scanned s most ps qs (less (length qs) (length ps) e) (λ i d l. k (suc i) d (omega (arith, l))),
+      each_scanned s notes most ps qs (less (length qs) (length ps) e) (λ i d l. k (suc i) d (omega (arith, l))),
     )
   where
     less : (m n : ℕ) → suc m ≡ suc n → m ≡ n
@@ -153,9 +154,9 @@ records_small s h =
     subst (λ n. n < 18446744073709551616) (sym h.sized.pages)
     (record_small (length s.frames) s.count h.sized.count h.sized.frame_count)
 
-pub changed_part : (s : SceneState) (most : ℕ) (x a y b : Part) → a ≡ x → b ≡ y → PartScanned s a b → b.scanned ≤ most
-    → PartScanned s x y × (y.scanned ≤ most)
-changed_part s most x a y b e d k l = (
-  subst (λ p. PartScanned s p y) e (subst (λ q. PartScanned s a q) d k),
+pub changed_part : (s : SceneState) (notes : List Reference) (most : ℕ) (x a y b : Part) → a ≡ x → b ≡ y → PartScanned s notes a b → b.scanned ≤ most
+    → PartScanned s notes x y × (y.scanned ≤ most)
+changed_part s notes most x a y b e d k l = (
+  subst (λ p. PartScanned s notes p y) e (subst (λ q. PartScanned s notes a q) d k),
   subst (λ (q : Part). q.scanned ≤ most) d l,
 )

@@ -12,7 +12,7 @@ use Rattle.page.specs.declared.owned.OwnedPage.{OwnedPage}
 use Rattle.page.specs.declared.owned.Part.{Part}
 use Rattle.part_scans.specs.Scenes.{SceneState, marked_in}
 use Rattle.part_scans.specs.Scans.{Scans, end_on, is_own, mark_bits, mark_on, mark_own, mark_target, mark_word, mark_words, own_index}
-use Rattle.part_scans.specs.Scans.{PartScanned, scan_own, send_words, word_of, write_on}
+use Rattle.part_scans.specs.Scans.{PartScanned, all_taken, scan_own, send_words, word_of, write_on}
 use Rattle.heap.specs.Owning.{AllScanned}
 
 -- a page has as many words and bits as another
@@ -139,14 +139,25 @@ SizedParts [] (q ∷ qs) = true ≡ false
 SizedParts (p ∷ ps) [] = true ≡ false
 SizedParts (p ∷ ps) (q ∷ qs) = (q.first ≡ p.first) × AreSized p.pages.items q.pages.items × SizedParts ps qs
 
-pub scanned_sized : (s : SceneState) (most : ℕ) (ps qs : List Part) → AllScanned s most ps qs → SizedParts ps qs
-scanned_sized s most [] [] k = tt
-scanned_sized s most [] (q ∷ qs) k = absurd (cc)
-scanned_sized s most (p ∷ ps) [] k = absurd (cc)
-scanned_sized s most (p ∷ ps) (q ∷ qs) k = (
+sized_taken : (s : SceneState) (first : ℕ) (ps : List OwnedPage) (ns : List Reference)
+    → AreSized ps (all_taken s first ps ns)
+sized_taken s first ps [] = sized_same ps
+sized_taken s first ps (n ∷ ns) =
+    sized_then ps (mark_target s first ps n) (all_taken s first (mark_target s first ps n) ns)
+    (sized_target s first ps n) (sized_taken s first (mark_target s first ps n) ns)
+
+pub scanned_sized : (s : SceneState) (notes : List Reference) (most : ℕ) (ps qs : List Part)
+    → AllScanned s notes most ps qs → SizedParts ps qs
+scanned_sized s notes most [] [] k = tt
+scanned_sized s notes most [] (q ∷ qs) k = absurd (cc)
+scanned_sized s notes most (p ∷ ps) [] k = absurd (cc)
+scanned_sized s notes most (p ∷ ps) (q ∷ qs) k = (
   k.0.first,
-  sized_scans s p.first k.0.scans.places p.pages.items p.sent.items q.pages.items q.sent.items k.0.scans.scans,
-  scanned_sized s most ps qs k.2,
+  sized_then p.pages.items (all_taken s p.first p.pages.items notes) q.pages.items
+      (sized_taken s p.first p.pages.items notes)
+      (sized_scans s p.first k.0.scans.places (all_taken s p.first p.pages.items notes) p.sent.items q.pages.items
+      q.sent.items k.0.scans.scans),
+  scanned_sized s notes most ps qs k.2,
 )
 
 pub long_sized : (ps qs : List OwnedPage) → AreSized ps qs → length qs ≡ length ps

@@ -1,6 +1,6 @@
 -- Pages whose words and bitmaps threads own for a time.
 use Rattle.std.specs.Prelude.{◌≡◌, ℕ, ◌+◌, ◌≤◌, Bool, true, false, List, [], ◌∷◌, get_or, length, slice_set}
-use Rattle.model.specs.States.{HeapState}
+use Rattle.model.specs.States.{Reference, HeapState}
 use Rattle.model.specs.Stores.{StoreState}
 use Rattle.page.specs.Owned.{SwappedParts, lent_frame, put_frame}
 use Rattle.page.specs.declared.owned.OwnedPage.{OwnedPage}
@@ -91,12 +91,13 @@ AreLent h (p ∷ ps) (l ∷ ls) =
     (l ≡ record p { pages = l.pages }) × (length l.pages.items ≡ length p.pages.items)
     × ArePagesOf h p.first l.pages.items × AreLent h ps ls
 
--- objects of each part were scanned, at most this number
-abbrev pub AllScanned : SceneState → ℕ → List Part → List Part → Type 0
-AllScanned s most [] [] = Unit {0}
-AllScanned s most [] (q ∷ qs) = true ≡ false
-AllScanned s most (p ∷ ps) [] = true ≡ false
-AllScanned s most (p ∷ ps) (q ∷ qs) = PartScanned s p q × (q.scanned ≤ most) × AllScanned s most ps qs
+-- notes were taken in on the pages of each part, and then objects of it scanned, at most this number
+abbrev pub AllScanned : SceneState → List Reference → ℕ → List Part → List Part → Type 0
+AllScanned s notes most [] [] = Unit {0}
+AllScanned s notes most [] (q ∷ qs) = true ≡ false
+AllScanned s notes most (p ∷ ps) [] = true ≡ false
+AllScanned s notes most (p ∷ ps) (q ∷ qs) =
+    PartScanned s notes p q × (q.scanned ≤ most) × AllScanned s notes most ps qs
 
 -- parts have what others have, but for pages
 abbrev pub AreBack : List Part → List Part → Type 0
@@ -105,22 +106,24 @@ AreBack [] (q ∷ qs) = true ≡ false
 AreBack (p ∷ ps) [] = true ≡ false
 AreBack (p ∷ ps) (q ∷ qs) = (q ≡ record p { pages = q.pages }) × AreBack ps qs
 
--- objects of parts were scanned, which had the words of their pages meanwhile
-pub record ScansStore (s : SceneState) (most : ℕ) (t : StoreState) (parts : List Part) (u : StoreState)
-    (after : List Part) : Type 0 where
+-- notes were taken in and objects of parts scanned, which had the words of their pages meanwhile
+pub record ScansStore (s : SceneState) (notes : List Reference) (most : ℕ) (t : StoreState) (parts : List Part)
+    (u : StoreState) (after : List Part) : Type 0 where
   pub between : List (List ℕ)
   pub lent : List Part
   pub left : List Part
   pub take : SwappedParts t.pages t.frames parts between lent
-  pub scanned : AllScanned s most lent left
+  pub scanned : AllScanned s notes most lent left
   pub give : SwappedParts t.pages between left u.frames after
   pub same : u ≡ record t { frames = u.frames }
 
--- objects of parts were scanned, of each at most this number, and the heap has the words and the bitmaps that result
-pub record ScansParts (h : HeapState) (most : ℕ) (parts : List Part) (g : HeapState) (after : List Part) : Type 0 where
+-- notes were taken in on the pages of parts, and objects of the parts scanned, of each at most this number; the heap has
+-- the words and the bitmaps that result
+pub record ScansParts (h : HeapState) (notes : List Reference) (most : ℕ) (parts : List Part) (g : HeapState)
+    (after : List Part) : Type 0 where
   pub lent : List Part
   pub left : List Part
   pub pages : AreLent h parts lent
-  pub scanned : AllScanned (scene_of h) most lent left
+  pub scanned : AllScanned (scene_of h) notes most lent left
   pub heap : g ≡ put_parts h left
   pub back : AreBack left after

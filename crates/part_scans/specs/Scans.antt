@@ -155,7 +155,18 @@ pub record AreScanned (s : SceneState) (first n : ℕ) (ps : List OwnedPage) (se
   pub count : length places ≡ n
   pub scans : Scans s first places ps sent qs after
 
--- objects of a part were scanned
-pub record PartScanned (s : SceneState) (p q : Part) : Type 0 where
+-- the pages after notes of objects are taken in, one after another: those of objects on these pages
+abbrev pub all_taken : SceneState → ℕ → List OwnedPage → List Reference → List OwnedPage
+all_taken s first ps [] = ps
+all_taken s first ps (n ∷ ns) = all_taken s first (mark_target s first ps n) ns
+
+-- what parts have sent, one part after another
+abbrev pub all_sent : List Part → List Reference
+all_sent [] = []
+all_sent (p ∷ ps) = p.sent.items ++ all_sent ps
+
+-- notes were taken in on the pages of a part, and then objects of it were scanned
+pub record PartScanned (s : SceneState) (notes : List Reference) (p q : Part) : Type 0 where
   pub first : q.first ≡ p.first
-  pub scans : AreScanned s p.first q.scanned p.pages.items p.sent.items q.pages.items q.sent.items
+  pub scans : AreScanned s p.first q.scanned (all_taken s p.first p.pages.items notes) p.sent.items q.pages.items
+      q.sent.items

@@ -5,6 +5,7 @@ mod marks;
 mod objects;
 mod parts;
 mod scene;
+mod taking;
 
 pub use parts::scan_part;
 pub use scene::{Scene, read_reference};

@@ -17,7 +17,7 @@ pub(crate) type Hints = ArrayVec<u64, 64>;
 /// Marks the object at an offset of a page: it becomes grey, if it wasn't marked before. Returns whether it wasn't.
 #[inline(always)]
 #[tactic(auto, unfolding(crate::specs::Scans::mark_on))]
-fn mark_on(page: &mut OwnedPage, offset: usize) -> bool
+pub(crate) fn mark_on(page: &mut OwnedPage, offset: usize) -> bool
     ensures { page.new ≡ mark_on offset page.old }
 {
     let was = page.marked.test(offset);

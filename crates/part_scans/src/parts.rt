@@ -1,14 +1,16 @@
 //! Scans of a part's objects, one after another.
 
 ghost use Rattle.std.specs.Prelude.{◌≡◌, ◌≤◌, ◌<◌, ◌^◌, IfSome};
-ghost use Rattle.part_scans.specs.Scans.{AreScanned, PartScanned};
+ghost use Rattle.part_scans.specs.Scans.{AreScanned, PartScanned, all_sent};
 
 use crate::marks::Hints;
 use crate::objects::scan_object;
 use crate::scene::Scene;
+use crate::taking::take_sent;
 use page::{OwnedPage, Part};
 use refword::Word;
 use std::alloc::Global;
+use std::mem;
 
 /// A place of a part: a page, by its index in the part, and an offset there.
 #[derive(Clone, Copy)]
@@ -106,12 +108,16 @@ fn scan_pages(
     done
 }
 
-/// Scans grey objects of a part, at most `most`, and counts them. Those that it marks on its own pages are scanned
-/// next; of those on other pages it adds notes, for which it takes no memory: an object whose notes have no space stays
-/// grey.
-pub fn scan_part(scene: &Scene<'_>, part: &mut Part, most: u64)
-    ensures scanned { PartScanned scene.now part.old part.new }
+/// Takes in what other parts have sent to a part: marks the objects that are on its own pages. Then it scans grey
+/// objects of the part, at most `most`, and counts them. Those that it marks on its own pages are scanned next; of
+/// those on other pages it adds notes, for which it takes no memory: an object whose notes have no space stays grey.
+pub fn scan_part(scene: &Scene<'_>, part: &mut Part, senders: &[Part], most: u64)
+    ensures scanned { PartScanned scene.now (all_sent senders.now) part.old part.new }
     ensures few { part.new.scanned ≤ most }
 {
-    part.scanned = scan_pages(scene, part.first, &mut part.pages, &mut part.sent, most);
+    take_sent(scene, part.first, &mut part.pages, senders);
+    let mut sent = Vec::new(*part.sent.allocator());
+    mem::swap(&mut sent, &mut part.sent);
+    part.scanned = scan_pages(scene, part.first, &mut part.pages, &mut sent, most);
+    mem::swap(&mut sent, &mut part.sent);
 }

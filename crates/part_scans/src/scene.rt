@@ -76,7 +76,8 @@ impl<'a> Scene<'a> {
         self.words.offset_of(address)
     }
 
-    /// Returns where the object of an address is now.
+    /// Returns where the object of an address is now, by its page and its offset there. That it has no entry in a
+    /// forwarding table is found by one bit.
     #[inline(always)]
     #[tactic(auto, unfolding(crate::specs::Scenes::resolved))]
     fn resolve(&self, address: Addr) -> Addr
@@ -86,6 +87,21 @@ impl<'a> Scene<'a> {
             self.page_of(address.number()),
             self.offset_of(address.number()) as u32,
         );
+        if !self.sides.has_entry(page, offset) {
+            return address;
+        }
+        self.forward(address, page, offset)
+    }
+
+    /// Returns where the object of an address is now, by its entry in a forwarding table, if it has one.
+    #[cold]
+    #[inline(never)]
+    #[tactic(auto, unfolding(crate::specs::Scenes::resolved))]
+    fn forward(&self, address: Addr, page: u64, offset: u32) -> Addr
+        requires page { page ≡ address / self.now.words }
+        requires offset { offset ≡ address % self.now.words }
+        ensures { result ≡ resolved self.now address }
+    {
         match self.sides.entry_at(page, offset) {
             None => address,
             Some(entry) => { if entry.copied { entry.to } else { address } }

@@ -1,5 +1,5 @@
 -- The heap with the pages of a part, and what parts have sent.
-use Rattle.std.specs.Prelude.{◌≡◌, ℕ, ◌+◌, ◌/◌, ◌<◌, ◌≤◌, true, false, List, [], ◌∷◌, ◌++◌, Some, None, length}
+use Rattle.std.specs.Prelude.{◌≡◌, ℕ, ◌+◌, ◌/◌, ◌<◌, ◌≤◌, true, false, List, [], ◌∷◌, ◌++◌, Some, None, length, get_or}
 use Rattle.waves.specs.Waves.{applied}
 use Rattle.heap.specs.Owning.{AreBlank, ArePlaced, page_of}
 use Rattle.model.specs.States.{Reference, HeapState}
@@ -29,11 +29,6 @@ abbrev pub FitsPages : HeapState → ℕ → List OwnedPage → Type 0
 FitsPages h i [] = Unit {0}
 FitsPages h i (p ∷ ps) = FitsPage h i p × FitsPages h (i + 1) ps
 
--- what parts have sent, one part after another
-abbrev pub all_sent : List Part → List Reference
-all_sent [] = []
-all_sent (p ∷ ps) = p.sent.items ++ all_sent ps
-
 -- how many objects were scanned in parts
 abbrev pub all_scanned_in : List Part → ℕ
 all_scanned_in [] = 0
@@ -48,6 +43,15 @@ AreUnsent (p ∷ ps) = (p.sent.items ≡ []) × AreUnsent ps
 abbrev pub AreFew : ℕ → List Part → Type 0
 AreFew most [] = Unit {0}
 AreFew most (p ∷ ps) = (p.scanned ≤ most) × AreFew most ps
+
+-- the pages of parts have all records from one up to n, those of each part after those of the part before
+abbrev pub AreJoined : ℕ → ℕ → List Part → Type 0
+AreJoined n low [] = low ≡ n
+AreJoined n low (p ∷ ps) = (p.first ≡ low) × AreJoined n (p.first + length p.pages.items) ps
+
+-- no page from that of a record's index on has a bitmap
+abbrev pub AreBare : HeapState → ℕ → Type 0
+AreBare h n = (j : ℕ) → n ≤ j → (get_or h.mark j [] ≡ []) × (get_or h.todo j [] ≡ [])
 
 -- parts of blank pages that have sent nothing, and take the place of some of the first n pages
 pub record AreNew (n : ℕ) (ps : List Part) : Type 0 where

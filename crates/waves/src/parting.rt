@@ -2,13 +2,13 @@
 
 ghost use Rattle.std.specs.Prelude.{◌≡◌, ◌≤◌, ◌<◌, ◌*◌, ◌^◌, [], IfOk, length};
 ghost use Rattle.heap.specs.Owning.{AreBlankPages};
-ghost use Rattle.waves.specs.Parts.{AreFew, AreNew, all_scanned_in};
+ghost use Rattle.waves.specs.Parts.{AreFew, AreJoined, AreNew, all_scanned_in};
 
 use page::{OwnedPage, Part};
 use std::alloc::{AllocError, Global};
 
 /// How many notes a part has space for: an object with more references than are left stays grey until the next wave.
-const NOTES: usize = 1 << 17;
+pub(crate) const NOTES: usize = 1 << 17;
 
 /// Returns blank pages. Fails only if out of memory.
 fn blank_pages(alloc: Global, count: usize) -> Result<Vec<OwnedPage, Global>, AllocError>
@@ -22,8 +22,9 @@ fn blank_pages(alloc: Global, count: usize) -> Result<Vec<OwnedPage, Global>, Al
     Ok(pages)
 }
 
-/// Returns a part of blank pages, from that of a record's index on. Fails only if out of memory.
-fn blank_part(alloc: Global, first: usize, count: usize) -> Result<Part, AllocError>
+/// Returns a part of blank pages, from that of a record's index on, with space for a number of notes. Fails only if out
+/// of memory.
+fn blank_part(alloc: Global, first: usize, count: usize, notes: usize) -> Result<Part, AllocError>
     ensures first { IfOk result (λ p. p.first ≡ first) }
     ensures blank { IfOk result (λ p. AreBlankPages p.pages.items) }
     ensures count { IfOk result (λ p. length p.pages.items ≡ count) }
@@ -32,27 +33,31 @@ fn blank_part(alloc: Global, first: usize, count: usize) -> Result<Part, AllocEr
     Ok(Part {
         first,
         pages: blank_pages(alloc, count)?,
-        sent: Vec::with_capacity(alloc, NOTES)?,
+        sent: Vec::with_capacity(alloc, notes)?,
         scanned: 0,
     })
 }
 
-/// Returns `count` parts of blank pages, which take the place of the first `used` ones. Fails only if out of memory.
+/// Returns `count` parts of blank pages, at least one, which take the place of the first `used` ones; each has space
+/// for a number of notes. Fails only if out of memory.
 pub(crate) fn new_parts(
     alloc: Global,
-    count: u32,
+    count: usize,
     used: usize,
+    notes: usize,
 ) -> Result<Vec<Part, Global>, AllocError>
-    ensures { IfOk result (λ v. AreNew used v.items) }
+    ensures new { IfOk result (λ v. AreNew used v.items) }
+    ensures joined { IfOk result (λ v. AreJoined used 0 v.items) }
 {
-    let size = used.div_ceil(count.max(1) as usize);
-    let mut parts = Vec::with_capacity(alloc, count as usize)?;
+    let size = used.div_ceil(count.max(1));
+    let mut parts = Vec::with_capacity(alloc, count)?;
     let mut first = 0;
-    for _part in 0..count {
+    for _part in 1..count {
         let pages = size.min(used - first);
-        parts.push(blank_part(alloc, first, pages)?)?;
+        parts.push(blank_part(alloc, first, pages, notes)?)?;
         first += pages;
     }
+    parts.push(blank_part(alloc, first, used - first, notes)?)?;
     Ok(parts)
 }
 

@@ -7,7 +7,7 @@ ghost use Rattle.model.specs.Scans.{next_todo, next_drain};
 ghost use Rattle.drains.specs.Drains.{IsReady, IsDrained, ObjectsDone, NoneTodo, KeepsPlain};
 
 use crate::listing::{Extent, are_spread, extent_of, list_grey};
-use crate::parting::{are_balanced, new_parts, total};
+use crate::parting::{NOTES, are_balanced, new_parts, total};
 use crate::taking::take_sent;
 use drains::{Portion, is_alone, mark_globals, scan_listed, scan_objects};
 use heap::Heap;
@@ -77,25 +77,28 @@ impl Course {
     }
 }
 
-/// Has threads scan parts, each at most its share of `most` objects, and takes in what they have sent to each other.
-/// Returns how many objects were scanned. No worker has an object, and nothing is left to be copied.
+/// Has threads scan parts of the first `used` pages, each at most its share of `most` objects, and takes in what they
+/// have sent to each other. Returns how many objects were scanned. No worker has an object, and nothing is left to be
+/// copied.
 fn scan_parts<R: Threads + Sync>(
     rt: &R,
     heap: &mut Heap,
     worker: u32,
     most: u64,
     parts: &mut [Part],
+    used: usize,
 ) -> u64
     requires ready { IsReady heap.old worker }
     requires alone { list_any is_some heap.old.workers ≡ false }
+    requires used { used ≤ length heap.old.store.pages }
     requires new { AreNew (length heap.old.store.pages) parts.old }
     ensures done { ObjectsDone heap.old worker result heap.new }
     ensures few { result ≤ most }
 {
     heap.law();
     let each = most / parts.len().max(1) as u64;
-    heap.raw_scan_by(rt, parts, each);
-    take_sent(heap, parts);
+    heap.raw_scan_by(rt, parts, &[], each);
+    take_sent(rt, heap, parts, used);
     total(parts, each)
 }
 
@@ -121,14 +124,14 @@ fn wave<R: Threads + Sync>(
     ensures few { result ≤ most }
 {
     let used = used_records(heap, extent);
-    let Ok(parts) = new_parts(heap.allocator(), course.threads, used) else {
+    let Ok(parts) = new_parts(heap.allocator(), course.threads as usize, used, NOTES) else {
         return 0;
     };
     let mut parts = parts;
     if !is_alone(heap) {
         return 0;
     }
-    let found = scan_parts(rt, heap, worker, most, &mut parts);
+    let found = scan_parts(rt, heap, worker, most, &mut parts, used);
     course.go_on(!are_balanced(&parts));
     found
 }

@@ -1,5 +1,6 @@
 use Rattle.std.proofs.Common.{length, subst, sym}
 use Rattle.model.specs.States.{HeapState}
+use Rattle.part_scans.specs.Scans.{all_sent}
 use Rattle.heap.specs.Owning.{ArePlaced, ScansParts}
 use Rattle.heap.specs.Views.{heap_of}
 use Rattle.heap.proofs.Parted.{chained, owned, owned_heap, placed_given, rows_wordless}
@@ -31,7 +32,7 @@ swap_all_rows-requires-2 g c =
     let h = heap_of c.self.inside in
     let placed = subst (λ (x : HeapState). ArePlaced (length x.store.pages) 0 c.args.parts.now) (sym c.self.view_is)
     c.requires.placed in
-    let chain = chained h c.args.most c.args.parts.now c.swap_all_rows.new.parts c.swap_all_rows.new.mark
+    let chain = chained h (all_sent c.args.senders.now) c.args.most c.args.parts.now c.swap_all_rows.new.parts c.swap_all_rows.new.mark
     c.swap_all_rows.new.todo c.scan_parts_by.new.store c.scan_parts_by.new.parts c.law.ensures c.requires.blank placed
     c.swap_all_rows.ensures c.scan_parts_by.ensures in
     placed_short (length h.store.pages) 0 c.scan_parts_by.new.parts (records_small h.store c.law.ensures)
@@ -42,9 +43,9 @@ invariant_of-self g c =
     let h = heap_of c.self.inside in
     let placed = subst (λ (x : HeapState). ArePlaced (length x.store.pages) 0 c.args.parts.now) (sym c.self.view_is)
     c.requires.placed in
-    owned_heap h c.args.most c.args.parts.now c.scan_parts_by.new.store c.swap_all_rows-2.new.mark
+    owned_heap h (all_sent c.args.senders.now) c.args.most c.args.parts.now c.scan_parts_by.new.store c.swap_all_rows-2.new.mark
     c.swap_all_rows-2.new.todo c.swap_all_rows-2.new.parts c.self.invariant
-    (owned h c.args.most c.args.parts.now c.scan_parts_by.new.store c.swap_all_rows-2.new.mark
+    (owned h (all_sent c.args.senders.now) c.args.most c.args.parts.now c.scan_parts_by.new.store c.swap_all_rows-2.new.mark
     c.swap_all_rows-2.new.todo c.swap_all_rows-2.new.parts c.law.ensures c.requires.blank placed (record {
       mark = c.swap_all_rows.new.mark;
       todo = c.swap_all_rows.new.todo;
@@ -60,7 +61,7 @@ returns g c =
     let h = heap_of c.self.inside in
     let placed = subst (λ (x : HeapState). ArePlaced (length x.store.pages) 0 c.args.parts.now) (sym c.self.view_is)
     c.requires.placed in
-    let k = owned h c.args.most c.args.parts.now c.scan_parts_by.new.store c.swap_all_rows-2.new.mark
+    let k = owned h (all_sent c.args.senders.now) c.args.most c.args.parts.now c.scan_parts_by.new.store c.swap_all_rows-2.new.mark
     c.swap_all_rows-2.new.todo c.swap_all_rows-2.new.parts c.law.ensures c.requires.blank placed (record {
       mark = c.swap_all_rows.new.mark;
       todo = c.swap_all_rows.new.todo;
@@ -70,7 +71,7 @@ returns g c =
       scans = c.scan_parts_by.ensures;
       give = c.swap_all_rows-2.ensures;
     }) in
-    subst (λ (x : HeapState). ScansParts x c.args.most c.args.parts.now
+    subst (λ (x : HeapState). ScansParts x (all_sent c.args.senders.now) c.args.most c.args.parts.now
     (record (heap_of c.self.inside) {
       store = c.scan_parts_by.new.store;
       mark = c.swap_all_rows-2.new.mark;
