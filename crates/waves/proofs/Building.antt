@@ -6,7 +6,7 @@ use Rattle.std.proofs.lemmas.List.{drop_more, drop_all}
 use Rattle.page.specs.declared.owned.OwnedPage.{OwnedPage}
 use Rattle.page.specs.declared.owned.Part.{Part}
 use Rattle.heap.specs.Owning.{AreBlank, AreBlankPages, ArePlaced}
-use Rattle.waves.specs.Parts.{AreFew, AreNew, AreUnsent, all_scanned_in}
+use Rattle.waves.specs.Parts.{AreFew, AreJoined, AreNew, AreUnsent, all_scanned_in}
 
 pub longer : {X : Type 0} (xs : List X) (x : X) → length (xs ++ x ∷ []) ≡ length xs + 1
 longer [] x = refl
@@ -43,6 +43,11 @@ new_more e f ps p k a b c d = record {
   placed = placed_more 0 e f ps p k.placed a c;
   unsent = unsent_more ps p k.unsent d;
 }
+
+pub joined_more : (low e f : ℕ) (ps : List Part) (p : Part) → AreJoined e low ps → p.first ≡ e
+    → f ≡ e + length p.pages.items → AreJoined f low (ps ++ p ∷ [])
+joined_more low e f [] p k a b = (omega (arith, k, a), omega (arith, a, b))
+joined_more low e f (q ∷ ps) p k a b = (k.0, joined_more (q.first + length q.pages.items) e f ps p k.1 a b)
 
 placed_within : (m n low : ℕ) (ps : List Part) → m ≤ n → ArePlaced m low ps → ArePlaced n low ps
 placed_within m n low [] l k = omega (arith, l, k)

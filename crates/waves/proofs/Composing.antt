@@ -76,7 +76,7 @@ same_read : {X : Type 0} (xs ys : List X) (i : ℕ) (d : X) → slice_get ys i �
 same_read xs ys i d e =
     sym (unwrap_or-slice_get ys i d) ∙ ap (λ o. unwrap_or o d) e ∙ unwrap_or-slice_get xs i d
 
-page_stays : (h : HeapState) (i j : ℕ) (ps : List OwnedPage) → IsStore h.store → (j < i) ⊎ (i + length ps ≤ j)
+pub page_stays : (h : HeapState) (i j : ℕ) (ps : List OwnedPage) → IsStore h.store → (j < i) ⊎ (i + length ps ≤ j)
     → page_of (placed h i ps) j ≡ page_of h j
 page_stays h i j ps s apart = λ z. record {
   frame = by_frame (frame_of h.store.pages j) refl z;

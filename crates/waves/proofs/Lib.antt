@@ -12,3 +12,5 @@ pub mod Sent
 pub mod Building
 pub mod Rows
 pub mod Drained
+pub mod TakenBy
+pub mod Bare

@@ -134,7 +134,7 @@ unfolding applied
 marked_stays g t b e = bit_set g.mark g.store.words b t e
 
 -- the object of a reference is marked
-target_moves : (h : HeapState) (first : ℕ) (ps : List OwnedPage) (ns : List Reference) (v : Reference) → IsHeap h
+pub target_moves : (h : HeapState) (first : ℕ) (ps : List OwnedPage) (ns : List Reference) (v : Reference) → IsHeap h
     → FitsPages h first ps → AreSent h.store.words ns → leads_on (scene_of h) v ≡ true
     → Moves h first ps ns (sent_to (placed h first ps) (ns ++ note_of v)) (mark_target (scene_of h) first ps v)
     (send_target (scene_of h) first (length ps) v)

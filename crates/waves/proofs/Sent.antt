@@ -8,7 +8,8 @@ use Rattle.model.specs.States.{Reference, HeapState}
 use Rattle.page.specs.declared.owned.Part.{Part}
 use Rattle.waves.specs.Waves.{applied}
 use Rattle.heap.specs.Marking.{MarksApart, MarksFirst, marked_at, noted}
-use Rattle.waves.specs.Parts.{all_sent, sent_to}
+use Rattle.part_scans.specs.Scans.{all_sent}
+use Rattle.waves.specs.Parts.{sent_to}
 use Rattle.waves.proofs.Folding.{applied_both, nothing_applied}
 
 pub taken_none : (h : HeapState) (note : Reference) → None ≡ address_in note → h ≡ sent_to h (note ∷ [])
@@ -38,7 +39,7 @@ taken_mark h g (Some (b, false)) a e m d = d ∙ ap (λ n. sent_to h (Some (n, f
 
 -- ---- lists
 
-sent_then : (h : HeapState) (ns ms : List Reference) → sent_to (sent_to h ns) ms ≡ sent_to h (ns ++ ms)
+pub sent_then : (h : HeapState) (ns ms : List Reference) → sent_to (sent_to h ns) ms ≡ sent_to h (ns ++ ms)
 sent_then h ns ms = applied_both h [] [] ns ms
 
 pub taken_next : (h g all : HeapState) (ns : List Reference) (i : ℕ) (d : Reference) → sent_to h (drop i ns) ≡ all

@@ -5,7 +5,7 @@ ghost use Rattle.part_scans.specs.Scans.{all_sent};
 ghost use Rattle.waves.specs.Parts.{AreBare, AreSent, sent_to};
 
 use crate::parting::new_parts;
-use heap::Heap;
+use heap::{Heap, Rows};
 use page::Part;
 use refword::Word;
 use std::thread::Threads;
@@ -54,19 +54,14 @@ fn take_each(heap: &mut Heap, senders: &[Part])
     }
 }
 
-/// Returns whether the page of a record's index has a bitmap.
-fn has_bitmap(heap: &Heap, index: usize) -> bool
-    ensures mark { result ≡ false → get_or heap.now.mark index [] ≡ [] }
-    ensures todo { result ≡ false → get_or heap.now.todo index [] ≡ [] }
+/// Returns whether there is no bitmap of an index.
+#[tactic(auto, using(crate::proofs::Bare::none_bare, crate::proofs::Bare::some_bare))]
+fn is_bare(rows: &Rows, index: usize) -> bool
+    ensures { result ≡ true → get_or rows.now index [] ≡ [] }
 {
-    if let Some(row) = heap.mark().get(index) {
-        if row.len() != 0 {
-            return true;
-        }
-    }
-    match heap.todo().get(index) {
-        None => false,
-        Some(row) => row.len() != 0,
+    match rows.get(index) {
+        None => true,
+        Some(row) => row.len() == 0,
     }
 }
 
@@ -75,8 +70,9 @@ fn are_bare(heap: &Heap, from: usize) -> bool
     ensures { result ≡ true → AreBare heap.now from }
 {
     heap.law();
-    for index in from..heap.memory().pages().len() {
-        if has_bitmap(heap, index) {
+    let pages = heap.memory().pages().len();
+    for index in from..pages {
+        if !is_bare(heap.mark(), index) || !is_bare(heap.todo().rows(), index) {
             return false;
         }
     }

@@ -80,7 +80,7 @@ fn scan_parts_by<R: Threads + Sync>(
     let words = PageSize::of(store.page_words());
     let scene = Scene::new(words, nmt, sides, layouts);
     let scan = |_index: usize, part: &mut Part|
-        ensures scanned { PartScanned scene.entry (all_sent senders.now) part.entry.now part.exit.now }
+        ensures scanned { PartScanned scene.entry (all_sent senders.entry.now) part.entry.now part.exit.now }
         ensures few { part.exit.now.scanned ≤ most }
     { scan_part(&scene, part, senders, most) };
     store.own_by(rt, parts, &scan);

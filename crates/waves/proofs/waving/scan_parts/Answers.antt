@@ -1,5 +1,5 @@
-use Rattle.std.proofs.Common.{◌*◌, ◌≤◌, arith, length}
-use Rattle.waves.proofs.PartsDone.{parts_done, parts_few}
+use Rattle.std.proofs.Common.{◌*◌, ◌≤◌, [], arith, length}
+use Rattle.waves.proofs.PartsDone.{parts_done, parts_few, parts_records, parts_sent}
 use Rattle.waves.proofs.waving.scan_parts.Goals as goal
 
 pub returns-clause-done : goal.returns-clause-done
@@ -11,3 +11,17 @@ returns-clause-done g c =
 pub total-requires-clause-few : goal.total-requires-clause-few
 total-requires-clause-few g c =
     parts_few c.args.heap.now c.raw_scan_by.new.self _ c.args.parts.now c.raw_scan_by.new.parts c.raw_scan_by.ensures
+
+pub take_sent-requires-clause-used : goal.take_sent-requires-clause-used
+take_sent-requires-clause-used g c κs within = omega (
+  arith,
+  c.requires.used,
+  parts_records c.args.heap.now c.raw_scan_by.new.self [] _ c.args.parts.now c.raw_scan_by.new.parts
+      c.raw_scan_by.ensures,
+)
+
+pub take_sent-requires-clause-sent : goal.take_sent-requires-clause-sent
+take_sent-requires-clause-sent g c κs within =
+    parts_sent c.args.heap.now c.raw_scan_by.new.self c.args.worker _ c.args.parts.now c.raw_scan_by.new.parts
+    c.requires.ready c.law.ensures.store c.law.ensures.heap c.requires.alone c.requires.new.placed
+    c.requires.new.unsent c.raw_scan_by.ensures

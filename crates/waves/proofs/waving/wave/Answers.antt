@@ -7,4 +7,4 @@ pub scan_parts-found-requires-clause-new : goal.scan_parts-found-requires-clause
 scan_parts-found-requires-clause-new g c κs within =
     subst (AreNew (length c.args.heap.now.store.pages)) (sym c.deref_mut.ensures.value)
     (new_within c.used_records-used.result (length c.args.heap.now.store.pages) c.in-Ok.parts.items c.used_records-used.ensures
-    c.in-Ok.ensures)
+    c.in-Ok.ensures.new)
