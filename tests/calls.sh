@@ -64,12 +64,17 @@ for named in \
     refuse_each "$test" "$crates/$crate/out/${crate}_tests" "$test"
 done
 
-# A mark on threads starts some, and ends without each of them.
+# A mark on four threads starts three for its wave, and three for what the parts have sent to each
+# other. It ends without each of them.
 told() {
     false
 }
 
 test=waving::four_threads_mark_as_one
 refuse_in_turn REFUSE_START "$test" "$crates/test_heap/out/test_heap_tests" "$test"
+if [ "$number" != 7 ]; then
+    echo "failed: $test: $((number - 1)) threads are started, and not 6"
+    failed=$((failed + 1))
+fi
 echo "$passed passed, $failed failed"
 [ "$failed" = 0 ]
