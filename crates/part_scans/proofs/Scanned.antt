@@ -1,5 +1,5 @@
 -- Objects of a part are scanned, one after another.
-use Rattle.std.proofs.Common.{◌≡◌, ℕ, suc, ◌+◌, List, [], ◌∷◌, ◌++◌, length, Option, None, Some, is_some, true, false, Bool}
+use Rattle.std.proofs.Common.{◌≡◌, ℕ, suc, ◌+◌, List, [], ◌∷◌, ◌++◌, length, Option, None, Some, is_some, true, false}
 use Rattle.std.proofs.Common.{refl, sym, ◌∙◌, ap, arith, subst}
 use Rattle.model.specs.States.{Reference}
 use Rattle.page.specs.declared.owned.OwnedPage.{OwnedPage}

@@ -1,2 +1,3 @@
 pub mod Scenes
 pub mod Scans
+pub mod Waiting

@@ -1,6 +1,7 @@
 //! Scans of objects by the thread that owns their pages: what is found of other pages is sent to their owners.
 #![tactic(auto)]
 
+mod backlog;
 mod marks;
 mod objects;
 mod parts;

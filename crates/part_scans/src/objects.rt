@@ -1,14 +1,16 @@
 //! Scans of single objects.
 
-ghost use Rattle.std.specs.Prelude.{◌≡◌, ◌≤◌, ◌<◌, ◌+◌, ◌++◌, ◌^◌, length, true, false, IfSome, Some};
+ghost use Rattle.std.specs.Prelude.{◌≡◌, ◌≤◌, ◌<◌, ◌+◌, ◌++◌, ◌^◌, ◌∷◌, ℕ, length, true, false, IfSome, Some};
 ghost use Rattle.std.specs.Vec.{vec_len, vec_capacity};
 ghost use Rattle.model.specs.States.{change_at};
 ghost use Rattle.model.specs.References.{read_reference};
 ghost use Rattle.part_scans.specs.Scans.{mark_word, send_word, mark_words, send_words, scan_own, word_of, write_on};
-ghost use Rattle.part_scans.specs.Scans.{AllLeadOn, bits_lead_on, leads_on, is_grey_own, is_marked_own, ScansOne, end_on};
+ghost use Rattle.part_scans.specs.Scans.{AllLeadOn, bits_lead_on, leads_on, ScansOne, end_on};
+ghost use Rattle.part_scans.specs.Waiting.{AreWaiting, Does, MarksWords, all_grey, places_of};
 ghost use Rattle.part_scans.specs.Scenes.{marked_in, refs_of};
 
-use crate::marks::{Hints, mark_target};
+use crate::backlog::{Waiting, grey_at};
+use crate::marks::mark_target;
 use crate::scene::{Scene, read_reference};
 use page::OwnedPage;
 use refword::Word;
@@ -45,10 +47,11 @@ fn mark_word(
     sent: &mut Vec<Word, Global>,
     index: usize,
     offset: usize,
-    hints: &mut Hints,
+    waiting: &mut Waiting,
 )
     requires room { vec_len sent.old < vec_capacity sent.old }
-    ensures pages { pages.new ≡ mark_word scene.now first pages.old index offset }
+    ensures pages { Does scene.now first (λ ps. mark_word scene.now first ps index offset) pages.old waiting.old.items
+        pages.new waiting.new.items }
     ensures sent { sent.new.items ≡ sent.old.items ++ send_word scene.now first pages.old index offset }
     ensures len { vec_len sent.new ≤ vec_len sent.old + 1 }
     ensures capacity { vec_capacity sent.new ≡ vec_capacity sent.old }
@@ -61,7 +64,7 @@ fn mark_word(
     }
     let word = scene.marked(read_reference(bits));
     set_word(pages, index, offset, word.bits());
-    mark_target(scene, first, pages, sent, word, hints);
+    mark_target(scene, first, pages, sent, word, waiting);
 }
 
 /// Marks `count` references from an offset of a page on, and writes them back.
@@ -74,12 +77,13 @@ fn mark_words(
     index: usize,
     offset: usize,
     count: u32,
-    hints: &mut Hints,
+    waiting: &mut Waiting,
 )
     requires room { vec_len sent.old + count ≤ vec_capacity sent.old }
     requires fits { offset + count < 2 ^ 64 }
-    ensures pages { pages.new ≡ mark_words scene.now first pages.old index offset count }
-    ensures sent { sent.new.items ≡ sent.old.items ++ send_words scene.now first pages.old index offset count }
+    ensures { (x : ℕ × ℕ) → AreWaiting pages.old (x ∷ places_of scene.now first waiting.old.items)
+        → MarksWords scene.now first index offset count pages.old waiting.old.items sent.old.items pages.new
+        waiting.new.items sent.new.items x }
 {
     for number in 0..count {
         mark_word(
@@ -89,7 +93,7 @@ fn mark_words(
             sent,
             index,
             offset + number as usize,
-            hints,
+            waiting,
         );
     }
 }
@@ -136,18 +140,6 @@ fn all_lead_on(
     true
 }
 
-/// Returns whether the object at an offset of a page is marked and grey.
-#[inline(always)]
-fn is_pending(pages: &[OwnedPage], index: usize, offset: usize) -> bool
-    ensures grey { result ≡ true → is_grey_own pages.now index offset ≡ true }
-    ensures marked { result ≡ true → is_marked_own pages.now index offset ≡ true }
-{
-    match pages.get(index) {
-        None => false,
-        Some(page) => page.grey.test(offset) && page.marked.test(offset),
-    }
-}
-
 /// Makes the object at an offset of a page no longer grey.
 #[inline(always)]
 #[tactic(auto, unfolding(crate::specs::Scans::end_on))]
@@ -160,8 +152,8 @@ fn end_scan(pages: &mut [OwnedPage], index: usize, offset: usize)
     }
 }
 
-/// Scans the object at an offset of a page completely, if it is marked and grey, its references are on the page and
-/// lead to pages, and there is space for as many notes. Returns how many references it has, or `None` if it is left.
+/// Scans the object at an offset of a page, which waits no more, completely, if its references are on the page and lead
+/// to pages, and there is space for as many notes. Returns how many references it has, or `None` if it is left and grey.
 #[inline(always)]
 #[tactic(auto, unfolding(crate::specs::Scans::scan_own))]
 pub(crate) fn scan_object(
@@ -171,22 +163,25 @@ pub(crate) fn scan_object(
     sent: &mut Vec<Word, Global>,
     index: usize,
     offset: usize,
-    hints: &mut Hints,
+    waiting: &mut Waiting,
 ) -> Option<u32>
-    requires { offset < 2 ^ 63 }
-    ensures { ScansOne scene.now first index offset result pages.old sent.old.items pages.new sent.new.items }
+    requires low { offset < 2 ^ 63 }
+    requires waits { AreWaiting pages.old ((index, offset) ∷ places_of scene.now first waiting.old.items) }
+    ensures scans { ScansOne scene.now first index offset result
+        (all_grey pages.old ((index, offset) ∷ places_of scene.now first waiting.old.items)) sent.old.items
+        (all_grey pages.new (places_of scene.now first waiting.new.items)) sent.new.items }
+    ensures waits { AreWaiting pages.new (places_of scene.now first waiting.new.items) }
 {
-    if !is_pending(pages, index, offset) {
-        return None;
-    }
     let refs = scene.refs_of(word_of(pages, index, offset));
     if sent.capacity() - sent.len() < refs as usize {
+        grey_at(pages, index, offset);
         return None;
     }
     if !all_lead_on(scene, pages, index, offset + 1, refs) {
+        grey_at(pages, index, offset);
         return None;
     }
-    mark_words(scene, first, pages, sent, index, offset + 1, refs, hints);
+    mark_words(scene, first, pages, sent, index, offset + 1, refs, waiting);
     end_scan(pages, index, offset);
     Some(refs)
 }

@@ -1,5 +1,4 @@
-use Rattle.std.proofs.Common.{◌+◌, arith, refl, sym, subst, ◌∙◌, ap}
-use Rattle.part_scans.specs.Scans.{AllLeadOn}
+use Rattle.std.proofs.Common.{◌+◌, arith, refl, sym, ◌∙◌}
 use Rattle.part_scans.proofs.Words.{leads_next}
 use Rattle.part_scans.proofs.objects.all_lead_on.Goals as goal
 
