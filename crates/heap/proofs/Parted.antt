@@ -146,8 +146,8 @@ matched_then (p ∷ ps) (q ∷ qs) (r ∷ rs) a b = (a.0 ∙ b.0, a.1 ∙ b.1, m
 -- ---- the heap in the end
 
 -- what was done to a heap: bitmaps were swapped, parts scanned, and bitmaps swapped again
-pub record HasOwned (h : HeapState) (notes : List Reference) (most : ℕ) (parts : List Part) (t : StoreState) (m g : List (List Bool))
-    (after : List Part) : Type 0 where
+pub record HasOwned (h : HeapState) (notes : List Reference) (most : ℕ) (parts : List Part) (t : StoreState)
+    (m g : List (List Bool)) (after : List Part) : Type 0 where
   pub mark : List (List Bool)
   pub todo : List (List Bool)
   pub given : List Part
@@ -168,8 +168,8 @@ pub record AreChained (parts given after returned : List Part) : Type 0 where
   pub whole : AreMatched parts after
   pub back : AreMatched parts returned
 
-pub chained : (h : HeapState) (notes : List Reference) (most : ℕ) (parts given : List Part) (m g : List (List Bool)) (t : StoreState)
-    (back : List Part) → IsStore h.store → AreBlank parts → ArePlaced (length h.store.pages) 0 parts
+pub chained : (h : HeapState) (notes : List Reference) (most : ℕ) (parts given : List Part) (m g : List (List Bool))
+    (t : StoreState) (back : List Part) → IsStore h.store → AreBlank parts → ArePlaced (length h.store.pages) 0 parts
     → SwappedRowsOf h.mark h.todo parts m g given → (k : ScansStore (scene_of h) notes most h.store given t back)
     → AreChained parts given k.left back
 chained h notes most parts given m g t back s b p rows k =
@@ -186,16 +186,16 @@ chained h notes most parts given m g t back s b p rows k =
       back = matched_then parts k.left back whole kept.matched;
     }
 
-pub record IsOwned (h : HeapState) (notes : List Reference) (most : ℕ) (parts : List Part) (t : StoreState) (m g : List (List Bool))
-    (after : List Part) : Type 0 where
+pub record IsOwned (h : HeapState) (notes : List Reference) (most : ℕ) (parts : List Part) (t : StoreState)
+    (m g : List (List Bool)) (after : List Part) : Type 0 where
   pub scans : ScansParts h notes most parts (record h { store = t; mark = m; todo = g }) after
   pub frames : length t.frames ≡ length h.store.frames
   pub same : t ≡ record h.store { frames = t.frames }
   pub marks : map length m ≡ map length h.mark
   pub greys : map length g ≡ map length h.todo
 
-pub owned : (h : HeapState) (notes : List Reference) (most : ℕ) (parts : List Part) (t : StoreState) (m g : List (List Bool))
-    (after : List Part) → IsStore h.store → AreBlank parts → ArePlaced (length h.store.pages) 0 parts
+pub owned : (h : HeapState) (notes : List Reference) (most : ℕ) (parts : List Part) (t : StoreState)
+    (m g : List (List Bool)) (after : List Part) → IsStore h.store → AreBlank parts → ArePlaced (length h.store.pages) 0 parts
     → HasOwned h notes most parts t m g after → IsOwned h notes most parts t m g after
 owned h notes most parts t m g after s b p k =
     let own = own_frames h.store s in
@@ -243,8 +243,8 @@ owned h notes most parts t m g after s b p k =
       greys = ap (map length) greys ∙ puts_sized row_slot h.todo (flat_parts greys_in left) long.2;
     }
 
-pub owned_heap : (h : HeapState) (notes : List Reference) (most : ℕ) (parts : List Part) (t : StoreState) (m g : List (List Bool))
-    (after : List Part) → IsHeap h → IsOwned h notes most parts t m g after
+pub owned_heap : (h : HeapState) (notes : List Reference) (most : ℕ) (parts : List Part) (t : StoreState)
+    (m g : List (List Bool)) (after : List Part) → IsHeap h → IsOwned h notes most parts t m g after
     → IsHeap (record h { store = t; mark = m; todo = g })
 unfolding page_at
 owned_heap h notes most parts t m g after i k =

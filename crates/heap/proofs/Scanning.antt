@@ -38,7 +38,8 @@ own_frames s h i j f a b = by_pages (slice_get s.pages i) (slice_get s.pages j) 
 
 pub each_scanned : (s : SceneState) (notes : List Reference) (most : ℕ) (ps qs : List Part) → length qs ≡ length ps
     → ((i : ℕ) (d : Part) → i < length ps
-    → PartScanned s notes (get_or ps i d) (get_or qs i d) × ((get_or qs i d).scanned ≤ most)) → AllScanned s notes most ps qs
+    → PartScanned s notes (get_or ps i d) (get_or qs i d) × ((get_or qs i d).scanned ≤ most))
+    → AllScanned s notes most ps qs
 each_scanned s notes most [] [] e k = tt
 each_scanned s notes most [] (q ∷ qs) e k = absurd (cc)
 each_scanned s notes most (p ∷ ps) [] e k = absurd (cc)
@@ -154,7 +155,8 @@ records_small s h =
     subst (λ n. n < 18446744073709551616) (sym h.sized.pages)
     (record_small (length s.frames) s.count h.sized.count h.sized.frame_count)
 
-pub changed_part : (s : SceneState) (notes : List Reference) (most : ℕ) (x a y b : Part) → a ≡ x → b ≡ y → PartScanned s notes a b → b.scanned ≤ most
+pub changed_part : (s : SceneState) (notes : List Reference) (most : ℕ) (x a y b : Part) → a ≡ x → b ≡ y
+    → PartScanned s notes a b → b.scanned ≤ most
     → PartScanned s notes x y × (y.scanned ≤ most)
 changed_part s notes most x a y b e d k l = (
   subst (λ p. PartScanned s notes p y) e (subst (λ q. PartScanned s notes a q) d k),

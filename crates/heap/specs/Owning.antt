@@ -117,8 +117,8 @@ pub record ScansStore (s : SceneState) (notes : List Reference) (most : ℕ) (t 
   pub give : SwappedParts t.pages between left u.frames after
   pub same : u ≡ record t { frames = u.frames }
 
--- notes were taken in on the pages of parts, and objects of the parts scanned, of each at most this number; the heap has
--- the words and the bitmaps that result
+-- notes were taken in on the pages of parts, and objects of the parts scanned, of each at most this number; the heap
+-- has the words and the bitmaps that result
 pub record ScansParts (h : HeapState) (notes : List Reference) (most : ℕ) (parts : List Part) (g : HeapState)
     (after : List Part) : Type 0 where
   pub lent : List Part

@@ -175,7 +175,8 @@ grey_stays ps j n i o e = by_page (slice_get ps j) refl
     by_place : (p : OwnedPage) → slice_get ps j ≡ Some p → (i ≡ j) ⊎ (i ≢ j)
         → is_grey_own (set ps j (grey_on n p)) i o ≡ true
     by_place p z (inr d) =
-        ap (λ q. bit_in (option_and_then (λ (x : OwnedPage). Some x.grey) q) o) (get_set_other ps j i (grey_on n p) d) ∙ e
+        ap (λ q. bit_in (option_and_then (λ (x : OwnedPage). Some x.grey) q) o)
+        (get_set_other ps j i (grey_on n p) d) ∙ e
     by_place p z (inl s) =
         ap (λ m. is_grey_own (set ps j (grey_on n p)) m o) s
         ∙ ap (λ q. bit_in (option_and_then (λ (x : OwnedPage). Some x.grey) q) o)

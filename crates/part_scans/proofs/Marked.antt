@@ -1,7 +1,7 @@
 -- References are marked while objects wait.
-use Rattle.std.proofs.Common.{◌≡◌, ◌≢◌, ◌⊎◌, inl, inr, ℕ, zero, suc, ◌+◌, ◌-◌, ◌/◌, ◌%◌, ◌≤◌, ◌<◌, ◌&&◌, true, false, Bool}
+use Rattle.std.proofs.Common.{◌≡◌, ◌≢◌, ◌⊎◌, inl, inr, ℕ, zero, suc, ◌+◌, ◌-◌, ◌/◌, ◌%◌, ◌≤◌, ◌<◌, ◌&&◌, true, false}
 use Rattle.std.proofs.Common.{List, [], ◌∷◌, ◌++◌, get_or, set, length, nat_lt, Option, Some, None, refl, sym, ◌∙◌, ap}
-use Rattle.std.proofs.Common.{arith, subst}
+use Rattle.std.proofs.Common.{Bool, arith, subst}
 use Rattle.std.specs.List.{slice_get}
 use Rattle.std.specs.Prelude.{if◌then◌else◌, MatchBool}
 use Rattle.std.proofs.lemmas.Bool.Decides.{nat_tests}
@@ -13,13 +13,15 @@ use Rattle.std.proofs.lemmas.Option.{get_or_from_slice_get}
 use Rattle.page.specs.declared.owned.OwnedPage.{OwnedPage}
 use Rattle.part_scans.specs.Scenes.{SceneState, marked_in, refs_of}
 use Rattle.part_scans.specs.Scans.{AllLeadOn, ScansOne, bits_lead_on, end_on, is_own, mark_bits, mark_on, mark_own}
-use Rattle.part_scans.specs.Scans.{mark_target, mark_word, mark_words, own_index, scan_own, send_bits, send_word, send_words}
+use Rattle.part_scans.specs.Scans.{mark_target, mark_word, mark_words, own_index, scan_own, send_bits, send_word}
+use Rattle.part_scans.specs.Scans.{send_words}
 use Rattle.part_scans.specs.Scans.{is_grey_own, is_marked_own, word_of, write_on}
 use Rattle.part_scans.specs.Waiting.{AreWaiting, Does, IsNext, MarksWords, WaitsOn, all_grey, grey_at, grey_on}
 use Rattle.part_scans.specs.Waiting.{place_of, places_of, white_on}
 use Rattle.part_scans.proofs.Changed.{changed_there}
 use Rattle.part_scans.proofs.Greying.{end_leaves, grey_leaves, greyed_ended, greyed_first, greyed_length}
-use Rattle.part_scans.proofs.Greying.{greyed_marked, greyed_more, greyed_two, greyed_word, grey_waits, waiting_marked, write_goes, write_leaves}
+use Rattle.part_scans.proofs.Greying.{greyed_marked, greyed_more, greyed_two, greyed_word, grey_waits}
+use Rattle.part_scans.proofs.Greying.{waiting_marked, write_goes, write_leaves}
 use Rattle.part_scans.proofs.Waits.{all_wait_still, marked_grey, marked_waits, waiting_last}
 use Rattle.part_scans.proofs.Words.{WordsLeft, words_first, words_next, words_notes, words_pages}
 
@@ -32,7 +34,8 @@ places_more s first (w ∷ ws) a = ap (λ xs. place_of s first w ∷ xs) (places
 
 not_own : (s : SceneState) (first n a page : ℕ) → page ≡ a / s.words → (page ≤ first) ⊎ (n ≤ page - 1 - first)
     → is_own s first n a ≡ false
-not_own s first n a page e (inl l) = ap (λ b. b && nat_lt (own_index s first a) n) (none (a / s.words) (omega (arith, e, l)))
+not_own s first n a page e (inl l) =
+    ap (λ b. b && nat_lt (own_index s first a) n) (none (a / s.words) (omega (arith, e, l)))
   where
     none : (m : ℕ) → m ≤ first → nat_lt first m ≡ false
     none m k = grind (arith, nat_tests)

@@ -18,7 +18,8 @@ pub waits_still : (ps : List OwnedPage) (j : ℕ) (f : OwnedPage → OwnedPage) 
     → IsWaiting (change_at ps j f) x
 waits_still ps j f x k w = by_place (cases_eq x.0 j)
   where
-    by_page : (o : Option OwnedPage) → slice_get ps j ≡ o → x.0 ≢ j → slice_get (change_found ps j o f) x.0 ≡ Some w.page
+    by_page : (o : Option OwnedPage) → slice_get ps j ≡ o → x.0 ≢ j
+        → slice_get (change_found ps j o f) x.0 ≡ Some w.page
     by_page None e d = w.there
     by_page (Some p) e d = get_set_other ps j x.0 (f p) d ∙ w.there
 

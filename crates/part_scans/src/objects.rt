@@ -153,7 +153,8 @@ fn end_scan(pages: &mut [OwnedPage], index: usize, offset: usize)
 }
 
 /// Scans the object at an offset of a page, which waits no more, completely, if its references are on the page and lead
-/// to pages, and there is space for as many notes. Returns how many references it has, or `None` if it is left and grey.
+/// to pages, and there is space for as many notes. Returns how many references it has; or `None` if it is left, and
+/// becomes grey.
 #[inline(always)]
 #[tactic(auto, unfolding(crate::specs::Scans::scan_own))]
 pub(crate) fn scan_object(

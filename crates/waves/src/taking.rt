@@ -79,8 +79,8 @@ fn are_bare(heap: &Heap, from: usize) -> bool
     true
 }
 
-/// Has threads take in what parts have sent: each one what leads to its own share of the first `used` pages, if no other
-/// page has a bitmap. Returns whether they did; if out of memory they do nothing.
+/// Has threads take in what parts have sent: each one what leads to its own share of the first `used` pages, if no
+/// other page has a bitmap. Returns whether they did; if out of memory they do nothing.
 fn take_by<R: Threads + Sync>(rt: &R, heap: &mut Heap, senders: &[Part], used: usize) -> bool
     requires used { used ≤ length heap.old.store.pages }
     requires sent { AreSent heap.old.store.words (all_sent senders.now) }

@@ -87,10 +87,10 @@ fn scan_parts_by<R: Threads + Sync>(
 }
 
 impl Heap {
-    /// A raw edit: has threads scan the objects of parts, each thread those of one part and at most `most`, after it has
-    /// taken in what other parts, the senders, have sent to its own pages. Meanwhile it owns the words and the bitmaps
-    /// of the part's pages; what it finds of other pages it leaves in its part. The parts have blank pages, whose
-    /// records exist and rise. It takes no memory: if a thread can't be started, this one does the work.
+    /// A raw edit: has threads scan the objects of parts, each thread those of one part and at most `most`, after it
+    /// has taken in what other parts, the senders, have sent to its own pages. Meanwhile it owns the words and the
+    /// bitmaps of the part's pages; what it finds of other pages it leaves in its part. The parts have blank pages,
+    /// whose records exist and rise. It takes no memory: if a thread can't be started, this one does the work.
     pub fn raw_scan_by<R: Threads + Sync>(
         &mut self,
         rt: &R,

@@ -19,5 +19,6 @@ returns-clause-pages c = word_done c.args.scene.now c.args.first c.args.index c.
     c.marked-word.result c.args.pages.now c.set_word.new.pages c.mark_target.new.pages c.args.waiting.now.items
     c.mark_target.new.waiting.items (sym c.in-Some.is ∙ c.word_of.ensures) c.if-bits-eq0.false
     (c.marked-word.ensures ∙ ap (marked_in c.args.scene.now) c.read_reference.ensures)
-    (c.set_word.ensures ∙ ap (λ b. change_at c.args.pages.now c.args.index (write_on c.args.offset b)) c.bits.ensures.value)
+    (c.set_word.ensures
+    ∙ ap (λ b. change_at c.args.pages.now c.args.index (write_on c.args.offset b)) c.bits.ensures.value)
     c.mark_target.ensures.pages

@@ -6,7 +6,8 @@ pub loop-number-init : goal.loop-number-init
 loop-number-init c = (
   omega (arith, c.requires.room),
   λ x w. wait_first c.args.scene.now c.args.first c.args.index c.args.offset c.args.count (c.args.offset + 0)
-      (c.args.count - 0) c.args.pages.now c.args.waiting.now.items c.args.sent.now.items x (omega arith) (omega arith) w,
+      (c.args.count - 0) c.args.pages.now c.args.waiting.now.items c.args.sent.now.items x (omega arith)
+      (omega arith) w,
 )
 
 pub loop-number-preserved : goal.loop-number-preserved
