@@ -98,23 +98,19 @@ fn mark_words(
     }
 }
 
-/// Returns whether a reference is null or leads to a page that has a number.
+/// Returns whether the bits of a reference are null, or lead to a page that has a number.
 #[inline(always)]
-fn leads_on(scene: &Scene<'_>, word: Word) -> bool
-    ensures { result ≡ leads_on scene.now word }
-{
-    match word.addr() {
-        None => true,
-        Some(address) => 0 < scene.page_of(address.number()),
-    }
-}
-
-/// Returns the same of the bits of a reference, if there are any.
-#[inline(always)]
+#[tactic(auto, unfolding(crate::specs::Scenes::marked_in))]
 fn bits_lead_on(scene: &Scene<'_>, bits: u64) -> bool
     ensures { result ≡ bits_lead_on scene.now (Some bits) }
 {
-    bits == 0 || leads_on(scene, scene.marked(read_reference(bits)))
+    if bits == 0 {
+        return true;
+    }
+    match read_reference(bits).addr() {
+        None => true,
+        Some(address) => 0 < scene.page_of(scene.resolve(address).number()),
+    }
 }
 
 /// Returns whether `count` words from an offset of a page on exist, and lead to pages.
@@ -148,7 +144,7 @@ fn end_scan(pages: &mut [OwnedPage], index: usize, offset: usize)
 {
     if index < pages.len() {
         let page = &mut pages[index];
-        page.grey.put(offset, false);
+        page.grey.unset(offset);
     }
 }
 

@@ -80,7 +80,7 @@ impl<'a> Scene<'a> {
     /// forwarding table is found by one bit.
     #[inline(always)]
     #[tactic(auto, unfolding(crate::specs::Scenes::resolved))]
-    fn resolve(&self, address: Addr) -> Addr
+    pub(crate) fn resolve(&self, address: Addr) -> Addr
         ensures { result ≡ resolved self.now address }
     {
         let (page, offset) = (
