@@ -1,7 +1,7 @@
 -- Bits that are set and cleared one after another.
 use Rattle.std.proofs.Common.{◌≡◌, ◌≢◌, ℕ, zero, suc, ◌-◌, ◌/◌, ◌%◌, ◌<◌, Bool, true, false, List, []}
 use Rattle.std.proofs.Common.{◌∷◌, set}
-use Rattle.std.proofs.Common.{Option, Some, None, get_or, refl, sym, ◌∙◌, ap, arith}
+use Rattle.std.proofs.Common.{Some, get_or, refl, sym, ◌∙◌, ap, arith}
 use Rattle.std.specs.List.{slice_get}
 use Rattle.std.proofs.lemmas.Bool.{true≢false}
 use Rattle.std.proofs.lemmas.List.{set-set}
@@ -9,58 +9,10 @@ use Rattle.std.proofs.lemmas.Option.{same_Some, get_or_from_slice_get}
 use Rattle.refword.specs.Words.{IsAddress}
 use Rattle.heap.specs.Marking.{bit_in}
 use Rattle.model.specs.Bits.{of_page, bit_at, put_bit, with_bit}
-use Rattle.model.specs.States.{change_at, change_found}
+use Rattle.model.specs.States.{change_at}
 use Rattle.drains.specs.Waiting.{noting, IsOther, AreWaiting}
 use Rattle.page.proofs.Untouched.{parted}
-
--- ---- one element of a list
-
-abbrev alter : {X : Type 0} → List X → ℕ → (X → X) → List X
-alter [] i f = []
-alter (x ∷ xs) zero f = f x ∷ xs
-alter (x ∷ xs) (suc i) f = x ∷ alter xs i f
-
-changed_is : {X : Type 0} (xs : List X) (i : ℕ) (f : X → X) → change_at xs i f ≡ alter xs i f
-changed_is [] i f = refl
-changed_is (x ∷ xs) zero f = refl
-changed_is {X} (x ∷ xs) (suc i) f = more (slice_get xs i) ∙ ap (λ ys. x ∷ ys) (changed_is xs i f)
-  where
-    more : (o : Option X) → change_found (x ∷ xs) (suc i) o f ≡ x ∷ change_found xs i o f
-    more None = refl
-    more (Some y) = refl
-
-alter_two : {X : Type 0} (xs : List X) (i j : ℕ) (f g : X → X) → ((x : X) → i ≡ j → g (f x) ≡ f (g x))
-    → alter (alter xs i f) j g ≡ alter (alter xs j g) i f
-alter_two [] i j f g k = refl
-alter_two (x ∷ xs) zero zero f g k = ap (λ y. y ∷ xs) (k x refl)
-alter_two (x ∷ xs) zero (suc j) f g k = refl
-alter_two (x ∷ xs) (suc i) zero f g k = refl
-alter_two (x ∷ xs) (suc i) (suc j) f g k = ap (λ ys. x ∷ ys) (alter_two xs i j f g (λ y e. k y (ap suc e)))
-
-alter_again : {X : Type 0} (xs : List X) (i : ℕ) (f g h : X → X) → ((x : X) → g (f x) ≡ h x)
-    → alter (alter xs i f) i g ≡ alter xs i h
-alter_again [] i f g h k = refl
-alter_again (x ∷ xs) zero f g h k = ap (λ y. y ∷ xs) (k x)
-alter_again (x ∷ xs) (suc i) f g h k = ap (λ ys. x ∷ ys) (alter_again xs i f g h k)
-
-changed_two : {X : Type 0} (xs : List X) (i j : ℕ) (f g : X → X) → ((x : X) → i ≡ j → g (f x) ≡ f (g x))
-    → change_at (change_at xs i f) j g ≡ change_at (change_at xs j g) i f
-changed_two xs i j f g k =
-    changed_is (change_at xs i f) j g ∙ ap (λ ys. alter ys j g) (changed_is xs i f) ∙ alter_two xs i j f g k
-    ∙ sym (changed_is (change_at xs j g) i f ∙ ap (λ ys. alter ys i f) (changed_is xs j g))
-
-changed_again : {X : Type 0} (xs : List X) (i : ℕ) (f g h : X → X) → ((x : X) → g (f x) ≡ h x)
-    → change_at (change_at xs i f) i g ≡ change_at xs i h
-changed_again xs i f g h k =
-    changed_is (change_at xs i f) i g ∙ ap (λ ys. alter ys i g) (changed_is xs i f) ∙ alter_again xs i f g h k
-    ∙ sym (changed_is xs i h)
-
-set_two : {X : Type 0} (xs : List X) (i j : ℕ) (v w : X) → (i ≡ j → v ≡ w) → set (set xs i v) j w ≡ set (set xs j w) i v
-set_two [] i j v w k = refl
-set_two (x ∷ xs) zero zero v w k = ap (λ y. y ∷ xs) (sym (k refl))
-set_two (x ∷ xs) zero (suc j) v w k = refl
-set_two (x ∷ xs) (suc i) zero v w k = refl
-set_two (x ∷ xs) (suc i) (suc j) v w k = ap (λ ys. x ∷ ys) (set_two xs i j v w (λ e. k (ap suc e)))
+use Rattle.part_scans.proofs.Changed.{alter, changed_again, changed_is, changed_two, set_two}
 
 -- ---- bits by addresses
 

@@ -3,12 +3,12 @@ use Rattle.std.proofs.Common.{◌≡◌, ℕ, zero, suc, Bool, List, [], ◌∷�
 use Rattle.std.specs.List.{slice_get}
 use Rattle.model.specs.States.{change_at, change_found}
 
-abbrev alter : {X : Type 0} → List X → ℕ → (X → X) → List X
+abbrev pub alter : {X : Type 0} → List X → ℕ → (X → X) → List X
 alter [] i f = []
 alter (x ∷ xs) zero f = f x ∷ xs
 alter (x ∷ xs) (suc i) f = x ∷ alter xs i f
 
-changed_is : {X : Type 0} (xs : List X) (i : ℕ) (f : X → X) → change_at xs i f ≡ alter xs i f
+pub changed_is : {X : Type 0} (xs : List X) (i : ℕ) (f : X → X) → change_at xs i f ≡ alter xs i f
 changed_is [] i f = refl
 changed_is (x ∷ xs) zero f = refl
 changed_is {X} (x ∷ xs) (suc i) f = more (slice_get xs i) ∙ ap (λ ys. x ∷ ys) (changed_is xs i f)

@@ -1,14 +1,13 @@
 -- Marks as references that are written and notes that are taken in.
-use Rattle.std.proofs.Common.{◌≡◌, ℕ, zero, suc, ◌+◌, true, Bool, List, [], ◌∷◌, ◌++◌}
-use Rattle.std.proofs.Common.{Option, Some, None, refl, sym, ◌∙◌, ap, arith}
+use Rattle.std.proofs.Common.{◌≡◌, ℕ, zero, suc, ◌+◌, Bool, List, [], ◌∷◌, ◌++◌}
+use Rattle.std.proofs.Common.{Option, Some, None, refl, sym, ◌∙◌, ap}
 use Rattle.refword.specs.Words.{bits_of}
 use Rattle.model.specs.Marks.{with_mark, marked_word}
-use Rattle.model.specs.Owning.{IsStore}
 use Rattle.model.specs.References.{field_address, read_reference}
 use Rattle.model.specs.Scans.{with_marked_place, reference_in}
 use Rattle.model.specs.States.{Reference, HeapState}
 use Rattle.model.specs.Stores.{StoreState, word_at, with_word, with_words}
-use Rattle.drains.specs.Drains.{refs_at, marked_field, marked_fields, without_todo, scanned}
+use Rattle.drains.specs.Drains.{marked_field}
 use Rattle.drains.proofs.Blanks.{field_of_nothing, field_of_blank}
 use Rattle.drains.proofs.Scanned.{field_behind}
 use Rattle.drains.proofs.Waiting.{none_noted}

@@ -1,8 +1,7 @@
 -- What several parts scan at once is a part of a drain.
-use Rattle.std.proofs.Common.{◌≡◌, ◌⊎◌, inl, inr, ℕ, suc, ◌+◌, ◌*◌, ◌≤◌, ◌<◌, true, false, is_some, Bool}
-use Rattle.std.proofs.Common.{List, [], ◌∷◌, ◌++◌, length, Option, Some, None, refl, sym, ◌∙◌, ap, arith, subst}
+use Rattle.std.proofs.Common.{◌≡◌, inr, ℕ, ◌+◌, ◌≤◌, false, is_some}
+use Rattle.std.proofs.Common.{List, [], ◌∷◌, ◌++◌, length, refl, sym, ◌∙◌, ap, arith, subst}
 use Rattle.std.specs.List.{list_any}
-use Rattle.model.specs.declared.records.Scan.{Scan}
 use Rattle.model.specs.Holding.{IsHeap}
 use Rattle.model.specs.Owning.{IsStore}
 use Rattle.model.specs.States.{Reference, HeapState}
@@ -12,10 +11,9 @@ use Rattle.page.specs.declared.owned.OwnedPage.{OwnedPage}
 use Rattle.page.specs.declared.owned.Part.{Part}
 use Rattle.part_scans.specs.Scenes.{SceneState, scene_of}
 use Rattle.part_scans.specs.Scans.{Scans, all_sent}
-use Rattle.waves.specs.Waves.{applied}
-use Rattle.heap.specs.Owning.{AllScanned, AreBack, AreLent, ArePagesOf, ArePlaced, ScansParts, put_pages, put_parts}
+use Rattle.heap.specs.Owning.{AllScanned, AreBack, AreLent, ArePlaced, ScansParts, put_pages, put_parts}
 use Rattle.heap.proofs.Shapes.{long_sized, sized_scans}
-use Rattle.waves.specs.Parts.{AreFew, AreSent, AreUnsent, FitsPages, all_scanned_in, sent_to}
+use Rattle.waves.specs.Parts.{AreFew, AreSent, AreUnsent, all_scanned_in, sent_to}
 use Rattle.waves.proofs.Composing.{pages_apart, pages_fit, pages_same, put_heap, put_records, put_scene, put_store}
 use Rattle.waves.proofs.Composing.{put_words, put_workers}
 use Rattle.waves.proofs.Folding.{append_none, nothing_applied}

@@ -10,7 +10,7 @@ use Rattle.model.specs.declared.records.Page.{Page}
 use Rattle.model.specs.Bits.{of_page, bit_at, put_bit, with_bit}
 use Rattle.model.specs.Holding.{IsHeap}
 use Rattle.model.specs.Owning.{IsStore}
-use Rattle.model.specs.States.{HeapState, change_at, change_found}
+use Rattle.model.specs.States.{HeapState, change_at}
 use Rattle.model.specs.Stores.{StoreState, page_at, frame_in, at_offset, spot_of, word_in, word_at}
 use Rattle.model.specs.Stores.{with_word, with_words, changed_in, changed_frame}
 use Rattle.model.proofs.Lists.{get_within}
@@ -21,6 +21,7 @@ use Rattle.page.specs.declared.owned.OwnedPage.{OwnedPage}
 use Rattle.page.proofs.Copied.{same_set}
 use Rattle.page.proofs.Keeping.{page_at_record}
 use Rattle.part_scans.specs.Scans.{mark_on, end_on, write_on, word_of}
+use Rattle.part_scans.proofs.Changed.{changed_there}
 use Rattle.heap.specs.Owning.{put_page, put_pages}
 use Rattle.waves.specs.Parts.{sent_to, FitsPage, FitsPages}
 use Rattle.waves.proofs.Placing.{set_in, put_all, AreDistinct, set_all, put_first, put_read}
@@ -136,10 +137,6 @@ map_kept : {X Y : Type 0} (f : X → Y) (xs : List X) (i : ℕ) (x v : X) → sl
     → map f (set xs i v) ≡ map f xs
 map_kept f xs i x v e same =
     map_set f xs i v ∙ ap (set (map f xs) i) same ∙ same_set (map f xs) i (f x) (get_map f xs i x e)
-
-pub changed_there : {X : Type 0} (xs : List X) (i : ℕ) (x : X) (f : X → X) → slice_get xs i ≡ Some x
-    → change_at xs i f ≡ set xs i (f x)
-changed_there xs i x f e = ap (λ o. change_found xs i o f) e
 
 -- the row of page n
 row_on : (rows : List (List Bool)) (n : ℕ) → 0 < n → of_page rows n ≡ get_or rows (n - 1) []

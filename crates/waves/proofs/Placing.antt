@@ -6,6 +6,7 @@ use Rattle.std.proofs.Math.ListN.{length-set}
 use Rattle.std.proofs.lemmas.List.{set-set, set-get_or}
 use Rattle.std.proofs.lemmas.Option.{same_Some}
 use Rattle.model.proofs.Lists.{get_set_same, get_set_other, get_within}
+use Rattle.part_scans.proofs.Changed.{set_two}
 
 -- a list with another element at a place, if there is a place
 abbrev pub set_in : {X : Type 0} → List X → Option ℕ → X → List X
@@ -23,17 +24,10 @@ AreDistinct place = (i j f : ℕ) → place i ≡ Some f → place j ≡ Some f 
 
 -- ---- two places
 
-set_two : {X : Type 0} (xs : List X) (i j : ℕ) (v w : X) → j ≢ i → set (set xs i v) j w ≡ set (set xs j w) i v
-set_two [] i j v w d = refl
-set_two (x ∷ xs) zero zero v w d = absurd (d refl)
-set_two (x ∷ xs) zero (suc j) v w d = refl
-set_two (x ∷ xs) (suc i) zero v w d = refl
-set_two (x ∷ xs) (suc i) (suc j) v w d = ap (λ ys. x ∷ ys) (set_two xs i j v w (λ e. d (ap suc e)))
-
 in_two : {X : Type 0} (xs : List X) (o : Option ℕ) (f : ℕ) (u v : X) → o ≢ Some f
     → set (set_in xs o u) f v ≡ set_in (set xs f v) o u
 in_two xs None f u v d = refl
-in_two xs (Some g) f u v d = set_two xs g f u v (λ e. d (ap Some (sym e)))
+in_two xs (Some g) f u v d = set_two xs g f u v (λ e. absurd (d (ap Some e)))
 
 ins_two : {X : Type 0} (xs : List X) (o q : Option ℕ) (u v : X) → ((f : ℕ) → q ≡ Some f → o ≢ Some f)
     → set_in (set_in xs o u) q v ≡ set_in (set_in xs q v) o u

@@ -1,24 +1,11 @@
 -- The bits of bitmaps.
-use Rattle.std.proofs.Common.{◌≡◌, ◌≢◌, ℕ, zero, suc, ◌+◌, ◌-◌, ◌/◌, ◌%◌, ◌≤◌, ◌<◌, ◌&&◌, not, true, false, Bool}
-use Rattle.std.proofs.Common.{List, [], ◌∷◌, get_or, set, length, Option, Some, None, refl, sym, ◌∙◌, ap, arith, subst}
-use Rattle.std.specs.List.{slice_get, list_any}
-use Rattle.std.specs.Prelude.{if◌then◌else◌}
-use Rattle.std.proofs.lemmas.Bool.{and_parts}
+use Rattle.std.proofs.Common.{◌≡◌, ◌≢◌, ℕ, zero, suc, ◌+◌, ◌-◌, ◌/◌, ◌%◌, ◌<◌, true, false, Bool}
+use Rattle.std.proofs.Common.{List, [], ◌∷◌, get_or, set, Option, Some, None, refl, sym, ◌∙◌, ap, arith}
+use Rattle.std.specs.List.{slice_get}
 use Rattle.model.specs.Bits.{of_page, bit_at, put_bit, with_bit}
-use Rattle.model.specs.Holding.{IsHeap}
-use Rattle.model.specs.Marks.{with_mark, todo_after, resolve}
-use Rattle.model.specs.Owning.{IsStore}
-use Rattle.model.specs.References.{field_address}
-use Rattle.model.specs.Scans.{is_scan_of, is_taken, is_free_todo, with_marked_place, reference_in}
-use Rattle.model.specs.States.{Reference, HeapState, change_at, change_found}
-use Rattle.model.specs.Stores.{word_at, with_word, with_words}
-use Rattle.heap.proofs.Marking.{marks_keep, bit_keeps}
+use Rattle.model.specs.States.{change_at, change_found}
 use Rattle.page.proofs.Untouched.{parted}
-use Rattle.drains.specs.Drains.{refs_at, marked_field, marked_fields, without_todo, scanned, IsReady, ObjectsDone}
 use Rattle.drains.proofs.Bits.{bit_stays, bit_read}
-use Rattle.drains.proofs.Scanned.{MayScan, fields_keep, workers_stay}
-use Rattle.drains.proofs.Waiting.{free_page}
-use Rattle.drains.proofs.Ended.{objects_next}
 
 -- ---- bits
 

@@ -1,13 +1,13 @@
 -- Notes are taken in, one after another.
-use Rattle.std.proofs.Common.{◌≡◌, ◌≢◌, ℕ, ◌+◌, ◌/◌, ◌%◌, ◌≤◌, ◌<◌, true, false, Bool, List, [], ◌∷◌, ◌++◌, length, drop, get_or}
-use Rattle.std.proofs.Common.{Option, Some, None, refl, sym, ◌∙◌, ap, arith, subst}
+use Rattle.std.proofs.Common.{◌≡◌, ℕ, ◌+◌, ◌≤◌, ◌<◌, true, false, List, [], ◌∷◌, ◌++◌, length, drop, get_or}
+use Rattle.std.proofs.Common.{Some, None, refl, sym, ◌∙◌, ap}
 use Rattle.std.proofs.lemmas.List.{drop_more, drop_all}
 use Rattle.refword.specs.Words.{address_in, mark_in}
 use Rattle.model.specs.Bits.{with_bit}
 use Rattle.model.specs.States.{Reference, HeapState}
 use Rattle.page.specs.declared.owned.Part.{Part}
 use Rattle.waves.specs.Waves.{applied}
-use Rattle.heap.specs.Marking.{MarksApart, MarksFirst, marked_at, noted}
+use Rattle.heap.specs.Marking.{marked_at}
 use Rattle.part_scans.specs.Scans.{all_sent}
 use Rattle.waves.specs.Parts.{sent_to}
 use Rattle.waves.proofs.Folding.{applied_both, nothing_applied}

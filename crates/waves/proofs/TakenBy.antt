@@ -1,5 +1,5 @@
 -- What parts have sent is taken in by the parts whose pages it leads to.
-use Rattle.std.proofs.Common.{◌≡◌, ◌⊎◌, inl, inr, ℕ, zero, suc, ◌+◌, ◌-◌, ◌/◌, ◌%◌, ◌≤◌, ◌<◌, ◌&&◌, true, false, Bool}
+use Rattle.std.proofs.Common.{◌≡◌, inr, ℕ, zero, suc, ◌+◌, ◌-◌, ◌/◌, ◌%◌, ◌≤◌, ◌<◌, ◌&&◌, true, false, Bool}
 use Rattle.std.proofs.Common.{List, [], ◌∷◌, ◌++◌, get_or, set, length, nat_lt, Option, Some, None, refl, sym, ◌∙◌, ap}
 use Rattle.std.proofs.Common.{arith, subst}
 use Rattle.std.specs.List.{slice_get}
@@ -15,7 +15,7 @@ use Rattle.page.specs.declared.owned.OwnedPage.{OwnedPage}
 use Rattle.page.specs.declared.owned.Part.{Part}
 use Rattle.page.proofs.Copied.{same_set}
 use Rattle.part_scans.specs.Scenes.{SceneState, scene_of}
-use Rattle.part_scans.specs.Scans.{AreScanned, Scans, all_taken, is_own, mark_on, mark_own, mark_target, own_index, send_other}
+use Rattle.part_scans.specs.Scans.{AreScanned, Scans, all_taken, mark_on, mark_own, mark_target, own_index, send_other}
 use Rattle.part_scans.specs.Scans.{send_target}
 use Rattle.heap.specs.Owning.{AllScanned, AreLent, ArePagesOf, ArePlaced, ScansParts, put_pages, put_parts}
 use Rattle.waves.specs.Waves.{applied}

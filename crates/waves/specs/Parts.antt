@@ -1,5 +1,5 @@
 -- The heap with the pages of a part, and what parts have sent.
-use Rattle.std.specs.Prelude.{◌≡◌, ℕ, ◌+◌, ◌/◌, ◌<◌, ◌≤◌, true, false, List, [], ◌∷◌, ◌++◌, Some, None, length, get_or}
+use Rattle.std.specs.Prelude.{◌≡◌, ℕ, ◌+◌, ◌/◌, ◌<◌, ◌≤◌, true, false, List, [], ◌∷◌, Some, None, length, get_or}
 use Rattle.waves.specs.Waves.{applied}
 use Rattle.heap.specs.Owning.{AreBlank, ArePlaced, page_of}
 use Rattle.model.specs.States.{Reference, HeapState}

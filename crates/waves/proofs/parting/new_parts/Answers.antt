@@ -1,4 +1,4 @@
-use Rattle.std.proofs.Common.{◌+◌, ◌∙◌, ap, arith, subst, sym}
+use Rattle.std.proofs.Common.{◌+◌, ap, arith, subst, sym}
 use Rattle.waves.specs.Parts.{AreJoined, AreNew}
 use Rattle.waves.proofs.Building.{joined_more, new_more}
 use Rattle.waves.proofs.parting.new_parts.Goals as goal

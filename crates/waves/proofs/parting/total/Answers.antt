@@ -1,4 +1,4 @@
-use Rattle.std.proofs.Common.{◌+◌, ◌*◌, ◌≤◌, ◌<◌, arith, length, subst, sym}
+use Rattle.std.proofs.Common.{◌+◌, ◌≤◌, ◌<◌, arith, length, subst, sym}
 use Rattle.page.specs.declared.owned.Part.{Part}
 use Rattle.waves.specs.Parts.{all_scanned_in}
 use Rattle.waves.proofs.Building.{few_at, sum_next, times_next, times_within}

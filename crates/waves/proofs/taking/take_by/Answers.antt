@@ -1,6 +1,5 @@
-use Rattle.std.proofs.Common.{◌∙◌, ap, length, subst, sym}
+use Rattle.std.proofs.Common.{length, subst, sym}
 use Rattle.heap.specs.Owning.{ArePlaced}
-use Rattle.page.specs.declared.owned.Part.{Part}
 use Rattle.waves.specs.Parts.{AreJoined}
 use Rattle.waves.proofs.Building.{new_within}
 use Rattle.waves.proofs.TakenBy.{taken_done}

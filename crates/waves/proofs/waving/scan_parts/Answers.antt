@@ -1,4 +1,4 @@
-use Rattle.std.proofs.Common.{◌*◌, ◌≤◌, [], arith, length}
+use Rattle.std.proofs.Common.{[], arith}
 use Rattle.waves.proofs.PartsDone.{parts_done, parts_few, parts_records, parts_sent}
 use Rattle.waves.proofs.waving.scan_parts.Goals as goal
 
