@@ -18,3 +18,5 @@ pub mod Usable
 pub mod Untouched
 pub mod Emptied
 pub mod Swapping
+pub mod Changes
+pub mod Filled

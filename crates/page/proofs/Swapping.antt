@@ -6,7 +6,10 @@ use Rattle.std.proofs.lemmas.List.{drop_more, drop_all, take_all, take_more_set,
 use Rattle.model.specs.declared.records.Page.{Page}
 use Rattle.page.specs.declared.owned.OwnedPage.{OwnedPage}
 use Rattle.page.specs.declared.owned.Part.{Part}
-use Rattle.page.specs.Owned.{lent_frame, put_frame, AreShort, Swapped, SwappedParts}
+use Rattle.model.specs.Stores.{changed_in, frame_in}
+use Rattle.page.specs.declared.targets.Target.{Target}
+use Rattle.page.specs.Filling.{SwapsTargets, page_in}
+use Rattle.page.specs.Owned.{lent_frame, put_frame, words_or, AreShort, Swapped, SwappedParts}
 
 together : {X : Type 0} (xs : List X) (x : X) (ys : List X) → (xs ++ x ∷ []) ++ ys ≡ xs ++ x ∷ ys
 together [] x ys = refl
@@ -103,3 +106,37 @@ short_part parts at i d all same within =
 pub same_rest : (parts at : List Part) (i : ℕ) (q : Part) → drop i at ≡ drop i parts
     → drop (i + 1) (set at i q) ≡ drop (i + 1) parts
 same_rest parts at i q e = drop-set-lt (i + 1) at i q (omega arith) ∙ drop_more_same at parts i e
+
+-- ---- targets
+
+-- if the rest of the targets is swapped, all are
+abbrev pub TargetsRest : List Page → List (List ℕ) → List Target → ℕ → List (List ℕ) → List Target → Type 0
+TargetsRest records frames targets i now at =
+    (after : List (List ℕ)) (rest : List Target) → SwapsTargets records now (drop i at) after rest
+    → SwapsTargets records frames targets after (take i at ++ rest)
+
+pub targets_next : (records : List Page) (frames : List (List ℕ)) (targets : List Target) (i : ℕ)
+    (now then : List (List ℕ)) (at : List Target) (d q : Target) → TargetsRest records frames targets i now at
+    → i < length at
+    → then ≡ changed_in now (frame_in (page_in records (get_or at i d).page)) (λ old. (get_or at i d).frame)
+    → q ≡ record (get_or at i d) {
+      frame = words_or now (frame_in (page_in records (get_or at i d).page)) (get_or at i d).frame;
+    } → TargetsRest records frames targets (i + 1) then (set at i q)
+targets_next records frames targets i now then at d q so_far within put lent after rest s =
+    let t : Target = get_or at i d in
+    let front : take (i + 1) (set at i q) ≡ take i at ++ q ∷ [] = take_more_set at i q within in
+    let back : drop (i + 1) (set at i q) ≡ drop (i + 1) at = drop-set-lt (i + 1) at i q (omega arith) in
+    let here : drop i at ≡ t ∷ drop (i + 1) at = drop_more at i d within in
+    subst (SwapsTargets records frames targets after)
+    (sym (ap (λ xs. xs ++ rest) front ∙ together (take i at) q rest))
+    (so_far after (q ∷ rest)
+    (subst (λ xs. SwapsTargets records now xs after (q ∷ rest)) (sym here)
+    (lent, subst (λ fs. SwapsTargets records fs (drop (i + 1) at) after rest) put
+    (subst (λ xs. SwapsTargets records then xs after rest) back s))))
+
+pub targets_last : (records : List Page) (frames : List (List ℕ)) (targets : List Target) (i : ℕ)
+    (now : List (List ℕ)) (at : List Target) → TargetsRest records frames targets i now at → length at ≤ i
+    → SwapsTargets records frames targets now at
+targets_last records frames targets i now at all past =
+    subst (SwapsTargets records frames targets now) (append_none (take i at) ∙ take_all i at past)
+    (all now [] (subst (λ xs. SwapsTargets records now xs now []) (sym (drop_all i at past)) refl))

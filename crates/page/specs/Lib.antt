@@ -11,3 +11,4 @@ pub mod Sizes
 pub mod Whole
 pub mod Kept
 pub mod Owned
+pub mod Filling

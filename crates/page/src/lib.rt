@@ -8,7 +8,9 @@ mod index;
 mod kept;
 mod owned;
 mod size;
+mod sources;
 mod store;
+mod targets;
 
 pub use copies::many;
 pub use frame::Frame;
@@ -18,3 +20,4 @@ pub use owned::{OwnedPage, Part};
 pub use pieces::{Cutter, PieceGate, cut_off};
 pub use size::PageSize;
 pub use store::{Store, record_count};
+pub use targets::{PageRun, Target};

@@ -51,7 +51,7 @@ pub struct Part {
 }
 
 /// Returns the frame of the page of a record's index, if it has memory.
-fn frame_at(records: &[Page], index: usize) -> Option<u32>
+pub(crate) fn frame_at(records: &[Page], index: usize) -> Option<u32>
     ensures { result ≡ frame_in (slice_get records.now index) }
 {
     match records.get(index) {

@@ -2,6 +2,7 @@
 mod behind;
 mod buffers;
 mod ending;
+mod filling;
 mod kept;
 mod lending;
 mod owning;
