@@ -23,3 +23,4 @@ pub mod Sizing
 pub mod Scanning
 pub mod Parted
 pub mod SwappedRows
+pub mod Filled

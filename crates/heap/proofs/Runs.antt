@@ -118,7 +118,7 @@ set_read {X = X} (x ∷ xs) (suc i) f e = by_found (slice_get xs i) (set_read xs
     by_found None k = k
     by_found (Some y) k = k
 
-behind_stay : (sides : List (List Forwarding)) (n : ℕ) (w : ℕ) (side : List Forwarding) (e : ℕ) (o : Option Forwarding)
+pub behind_stay : (sides : List (List Forwarding)) (n : ℕ) (w : ℕ) (side : List Forwarding) (e : ℕ) (o : Option Forwarding)
     → AreRising w 0 side → slice_get side e ≡ o
     → ((i : ℕ) → e ≤ i → slice_get (of_page sides n) i ≡ slice_get side i)
     → (i : ℕ) → e + 1 ≤ i → slice_get (of_page (noted_sides n o sides) n) i ≡ slice_get side i
@@ -303,7 +303,7 @@ run_more s n target side ls e k h = words_alike s target both (λ ws. second (fi
 -- a run
 
 module _ (n target : ℕ) (side : List Forwarding) (ls : List Layout) where
-  runs : (h : HeapState) (e k : ℕ) → h.config.layouts ≡ ls → IsStore h.store → AreRising h.store.words 0 side
+  pub runs : (h : HeapState) (e k : ℕ) → h.config.layouts ≡ ls → IsStore h.store → AreRising h.store.words 0 side
       → ((i : ℕ) → e ≤ i → slice_get (of_page h.sides n) i ≡ slice_get side i) → GoTo h.store.words target side e k
       → record h {
         store = with_run h.store n target side ls e k;

@@ -11,3 +11,4 @@ pub mod Found
 pub mod Writing
 pub mod Entries
 pub mod Owning
+pub mod Filling

@@ -6,6 +6,7 @@ pub mod collecting;
 mod crossing;
 mod data;
 pub mod edits;
+mod filling;
 mod kept;
 mod making;
 mod marks;

@@ -1,5 +1,5 @@
 -- Targets that are filled at once have the words that they get one after another.
-use Rattle.std.proofs.Common.{◌≡◌, ◌≢◌, ℕ, zero, suc, ◌+◌, ◌-◌, ◌≤◌, ◌<◌, ◌==◌, List, [], ◌∷◌, length, get_or}
+use Rattle.std.proofs.Common.{◌≡◌, ◌≢◌, ℕ, zero, suc, ◌+◌, ◌-◌, ◌≤◌, ◌<◌, ◌==◌, ◌++◌, List, [], ◌∷◌, length, get_or}
 use Rattle.std.proofs.Common.{Option, Some, None, cond, Bool, true, false, refl, sym, ap, ◌∙◌, subst, arith, ne_eqb}
 use Rattle.std.proofs.Common.{drop, unwrap_or}
 use Rattle.std.specs.List.{slice_get}
@@ -19,7 +19,7 @@ use Rattle.pieces.proofs.Cuts.{length_all}
 use Rattle.page.specs.declared.targets.PageRun.{PageRun}
 use Rattle.page.specs.declared.targets.Target.{Target}
 use Rattle.page.specs.Filling.{AllHaveEntries, AreFilled, AreOutside, FillsFrames, IsOutside, SourcesState, SwapsTargets, all_filled}
-use Rattle.page.specs.Filling.{filled, is_from_in, laid_runs, page_in, source_on, with_runs}
+use Rattle.page.specs.Filling.{filled, is_from_in, laid_runs, page_in, runs_of, source_on, with_runs}
 use Rattle.page.specs.Owned.{words_or}
 use Rattle.page.specs.Runs.{known, source_with, with_run}
 use Rattle.page.proofs.Changes.{Differ, changes_join, changes_match, changes_swap, words_of, words_stay}
@@ -350,3 +350,36 @@ all_done from to us vs same long h = record {
       slice_get-get_or vs i u (omega (arith, l, long)) ∙ ap Some (h i u l
       ∙ ap (filled from) (get_or_from_slice_get us i u u at) ∙ ap (λ s. filled s u) same);
 }
+
+-- targets that were swapped have the runs that they had
+swapped_runs : (records : List Page) (fs : List (List ℕ)) (ts : List Target) (after : List (List ℕ)) (us : List Target)
+    → SwapsTargets records fs ts after us → runs_of us ≡ runs_of ts
+swapped_runs records fs [] after [] e = refl
+swapped_runs records fs [] after (u ∷ us) e = absurd (true≢false e)
+swapped_runs records fs (t ∷ ts) after [] e = absurd (true≢false e)
+swapped_runs records fs (t ∷ ts) after (u ∷ us) e =
+    ap (λ (x : Target). x.runs.items ++ runs_of us) e.0
+    ∙ ap (λ rs. t.runs.items ++ rs)
+    (swapped_runs records (changed_in fs (frame_in (page_in records t.page)) (λ old. t.frame)) ts after us e.1)
+
+-- so have those that were filled
+filled_runs : (from : SourcesState) (us vs : List Target) → AreFilled from us vs → runs_of vs ≡ runs_of us
+filled_runs from [] [] f = refl
+filled_runs from [] (v ∷ vs) f = absurd (omega (arith, f.long))
+filled_runs from (u ∷ us) [] f = absurd (omega (arith, f.long))
+filled_runs from (u ∷ us) (v ∷ vs) f =
+    ap (λ (x : Target). x.runs.items ++ runs_of vs) (same_Some _ _ (f.each 0 u refl))
+    ∙ ap (λ rs. u.runs.items ++ rs) (filled_runs from us vs (record {
+      long = shorter f.long;
+      each = λ i x at. f.each (suc i) x at;
+    }))
+  where
+    shorter : suc (length vs) ≡ suc (length us) → length vs ≡ length us
+    shorter z = omega (arith, z)
+
+pub runs_back : (size : ℕ) (records : List Page) (sides : List (List Forwarding)) (ls : List Layout)
+    (fs : List (List ℕ)) (ts : List Target) (after : List (List ℕ)) (back : List Target)
+    → FillsFrames size records sides ls fs ts after back → runs_of back ≡ runs_of ts
+runs_back size records sides ls fs ts after back f =
+    swapped_runs records f.between f.left after back f.give ∙ filled_runs _ f.lent f.left f.fill
+    ∙ swapped_runs records fs ts f.between f.lent f.take

@@ -1,5 +1,5 @@
 -- Targets that are filled at once, each with the objects of the runs that go there.
-use Rattle.std.specs.Prelude.{◌≡◌, ℕ, ◌+◌, ◌-◌, ◌<◌, ◌≤◌, ◌==◌, length, List, [], ◌∷◌, Option, None, Some, slice_get}
+use Rattle.std.specs.Prelude.{◌≡◌, ℕ, ◌+◌, ◌-◌, ◌<◌, ◌≤◌, ◌==◌, ◌++◌, length, List, [], ◌∷◌, Option, None, Some, slice_get}
 use Rattle.std.specs.Prelude.{Bool, true, false, option_and_then, if◌then◌else◌}
 use Rattle.layout.specs.declared.shape.Layout.{Layout}
 use Rattle.model.specs.Bits.{of_page}
@@ -23,6 +23,11 @@ with_runs s sides ls n (r ∷ rs) =
 abbrev pub all_filled : StoreState → List (List Forwarding) → List Layout → List Target → StoreState
 all_filled s sides ls [] = s
 all_filled s sides ls (t ∷ ts) = all_filled (with_runs s sides ls t.page t.runs.items) sides ls ts
+
+-- the runs of targets, one target after another
+abbrev pub runs_of : List Target → List PageRun
+runs_of [] = []
+runs_of (t ∷ ts) = t.runs.items ++ runs_of ts
 
 -- the entries of a run exist
 abbrev pub HasEntries : List (List Forwarding) → PageRun → Type 0

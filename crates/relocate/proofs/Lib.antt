@@ -8,3 +8,4 @@ pub mod Planning
 pub mod Runs
 pub mod PageCopies
 pub mod Copied
+pub mod Together

@@ -77,13 +77,13 @@ copied_one h n e m = by_tests (is_idle h.phase) (crossed_if_protecting h) (is_fr
     by_tests false (Err k) b x y z = absurd (cc)
     by_tests false (Ok tt) false x y z = absurd (cc)
 
--- after an entry is copied, the page's objects may still be copied
-still : (h : HeapState) (n : ℕ) (o : Option Forwarding) → MayCopy h n → MayCopy (with_entry h n o) n
+-- after an entry is copied, the objects of a page may still be copied
+still : (h : HeapState) (n p : ℕ) (o : Option Forwarding) → MayCopy h p → MayCopy (with_entry h n o) p
 unfolding with_copy with_copied_words with_words state_at page_at crossed_if_protecting all_crossed
-still h n None m = m
-still h n (Some f) m = by_copied f.copied
+still h n p None m = m
+still h n p (Some f) m = by_copied f.copied
   where
-    by_copied : (b : Bool) → MayCopy (cond b h (with_copy h (n * h.store.words + f.offset) f.to)) n
+    by_copied : (b : Bool) → MayCopy (cond b h (with_copy h (n * h.store.words + f.offset) f.to)) p
     by_copied true = m
     by_copied false = record { busy = m.busy; crossed = m.crossed; emptied = m.emptied }
 
@@ -91,7 +91,7 @@ copies_are : (h : HeapState) (n e k : ℕ) → MayCopy h n → copies_from h n e
 copies_are h n e zero m = refl
 copies_are h n e (suc k) m =
     let o : Option Forwarding = slice_get (of_page h.sides n) e in
-    ap (λ g. copies_from g n (e + 1) k) (copied_one h n e m) ∙ copies_are (with_entry h n o) n (e + 1) k (still h n o m)
+    ap (λ g. copies_from g n (e + 1) k) (copied_one h n e m) ∙ copies_are (with_entry h n o) n (e + 1) k (still h n n o m)
 
 -- the outcome is that of the tests, and then of the copies
 
@@ -129,3 +129,20 @@ accepted h g n count copied e all is many = by_parts h n ∙ ap (λ r. first_the
           ∙ ap (λ k. with_entries h n 0 k) (sym all) ∙ sym is) i,
       answers.CopiedPage (sym many i),
     ))
+
+-- after the entries of a page are copied, the objects of another may still be copied
+
+tests_pass : (h : HeapState) (n : ℕ) → MayCopy h n → may_copy_page h n ≡ Ok tt
+tests_pass h n m =
+    (λ i. refuse_if (m.busy i) refusals.Phase
+    >>= (λ u. m.crossed i >>= (λ v. refuse_if (not (m.emptied i)) refusals.BadIndex)))
+
+all_still : (h : HeapState) (n p e k : ℕ) → MayCopy h p → MayCopy (with_entries h n e k) p
+all_still h n p e zero m = m
+all_still h n p e (suc k) m =
+    let o : Option Forwarding = slice_get (of_page h.sides n) e in
+    all_still (with_entry h n o) n p (e + 1) k (still h n p o m)
+
+pub still_passes : (h : HeapState) (n p e k : ℕ) → may_copy_page h p ≡ Ok tt
+    → may_copy_page (with_entries h n e k) p ≡ Ok tt
+still_passes h n p e k m = tests_pass (with_entries h n e k) p (all_still h n p e k (may_copy h p m))

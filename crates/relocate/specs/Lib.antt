@@ -1,3 +1,4 @@
 pub mod Drafts
 pub mod Targets
 pub mod Runs
+pub mod Many

@@ -4,6 +4,7 @@
 mod copying;
 mod drafting;
 mod emptied;
+mod many;
 mod protecting;
 mod releasing;
 mod ripe;
@@ -12,6 +13,7 @@ mod targets;
 mod whole;
 
 pub use copying::{copy, copy_for, follow};
+pub use many::copy_pages_by;
 pub use page::PieceGate;
 pub use protecting::protect;
 pub use releasing::release;

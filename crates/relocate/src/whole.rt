@@ -19,9 +19,9 @@ use std::thread::Threads;
 
 /// A run of entries: their target, and how many they are.
 #[derive(Clone, Copy)]
-struct Run {
-    target: u64,
-    count: u32,
+pub(crate) struct Run {
+    pub target: u64,
+    pub count: u32,
 }
 
 /// Returns the target of an entry's object, if there is such an entry.
@@ -68,7 +68,7 @@ fn run_length(heap: &Heap, page: u64, first: u32, end: u32, target: u64) -> u32
 
 /// Returns the run that begins with an entry of a page.
 #[tactic(auto, using(crate::proofs::Runs::entry_goes))]
-fn run_at(heap: &Heap, page: u64, first: u32, end: u32) -> Run
+pub(crate) fn run_at(heap: &Heap, page: u64, first: u32, end: u32) -> Run
     requires some { first < end }
     requires within { end ≤ length (of_page heap.now.sides page) }
     ensures { IsRun heap.now page first end result.target result.count }
@@ -116,7 +116,7 @@ fn copy_runs_by<R: Threads + Sync, G: PieceGate + Sync>(
 
 /// Tests whether a page's objects may be copied. Fails with `Phase` while the collector is idle; `NotCrossed` while
 /// pages are being protected and a thread hasn't crossed; `BadIndex` if the page isn't a From page.
-fn may_copy_page(heap: &Heap, page: u32) -> Result<(), Refusal>
+pub(crate) fn may_copy_page(heap: &Heap, page: u32) -> Result<(), Refusal>
     ensures { result ≡ may_copy_page heap.now page }
 {
     if matches!(heap.phase(), Phase::Idle) {

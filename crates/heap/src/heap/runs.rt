@@ -37,7 +37,7 @@ fn note_each(starts: &mut Rows, sides: &mut Sides, store: &Store, page: u64, fir
 }
 
 /// The same; and the place of the last entry is kept, after which the next one is looked up.
-fn note_copies(
+pub(crate) fn note_copies(
     starts: &mut Rows,
     sides: &mut Sides,
     store: &Store,

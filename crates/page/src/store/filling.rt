@@ -3,7 +3,7 @@
 ghost use Rattle.std.specs.Prelude.{◌≡◌, ◌<◌, true, length};
 ghost use Rattle.model.specs.Bits.{of_page};
 ghost use Rattle.model.specs.Owning.{Each};
-ghost use Rattle.page.specs.Filling.{AllHaveEntries, AreOutside, HasEntries, IsOutside, all_filled, is_from_in, with_runs};
+ghost use Rattle.page.specs.Filling.{AllHaveEntries, AreOutside, HasEntries, IsOutside, all_filled, is_from_in, runs_of, with_runs};
 ghost use Rattle.page.specs.Runs.{with_run};
 
 use crate::sources::{fill_frames, side_on};
@@ -106,7 +106,8 @@ impl Store {
         requires threads { 0 < threads }
         requires entries { Each targets.old (AllHaveEntries sides.now) }
         requires outside { AreOutside self.old.pages 0 targets.old }
-        ensures { self.new ≡ all_filled self.old sides.now layouts.now targets.old }
+        ensures filled { self.new ≡ all_filled self.old sides.now layouts.now targets.old }
+        ensures runs { runs_of targets.new ≡ runs_of targets.old }
     {
         fill_frames(
             rt,
@@ -122,8 +123,7 @@ impl Store {
 
     /// Copies the objects of runs of forwarding tables to their places on targets: has the effect of `copy_entries` for
     /// each run of each target in turn. Threads do so, each for some targets, if the targets' numbers rise, no target is
-    /// a From page, and all runs are of From pages; else this thread does. It takes no memory. Afterwards the targets'
-    /// own frames are as they were.
+    /// a From page, and all runs are of From pages; else this thread does. It takes no memory. The targets' runs stay.
     pub fn fill_by<R: Threads + Sync>(
         &mut self,
         rt: &R,
@@ -133,7 +133,8 @@ impl Store {
         threads: u32,
     )
         requires { Each targets.old (AllHaveEntries sides.now) }
-        ensures { self.new ≡ all_filled self.old sides.now layouts.now targets.old }
+        ensures filled { self.new ≡ all_filled self.old sides.now layouts.now targets.old }
+        ensures runs { runs_of targets.new ≡ runs_of targets.old }
     {
         if threads > 1 && self.are_outside(targets) {
             self.fill_outside(rt, sides, layouts, targets, threads);
