@@ -39,7 +39,12 @@ pub(crate) fn mark_whole<M: Executor>(heap: &mut ManagedHeap, by: &M) -> Result<
 }
 
 /// Empties chosen pages, and returns how many they are.
-fn empty_chosen(heap: &mut ManagedHeap, pages: Vec<u32>) -> Result<u64, Refusal>
+fn empty_chosen<M: Executor>(
+    heap: &mut ManagedHeap,
+    pages: Vec<u32>,
+    by: &M,
+) -> Result<u64, Refusal>
+    requires { M.may_mark by.now }
     ensures ends { EndsChosen heap.old pages.items result heap.new }
     ensures scrubbed { needs_no_scrub heap.old.phase ≡ true → IfOk result (λ count. AreScrubbed heap.new) }
 {
@@ -48,19 +53,25 @@ fn empty_chosen(heap: &mut ManagedHeap, pages: Vec<u32>) -> Result<u64, Refusal>
     if count == 0 {
         return Ok(0);
     }
-    match heap.empty(0, pages) {
+    match by.empty(heap, pages) {
         Ok(()) => Ok(count),
         Err(refusal) => Err(refusal),
     }
 }
 
 /// Empties a choice of pages, after a mark that found `live` objects.
-fn empty_choice(heap: &mut ManagedHeap, live: u64, choice: Choice) -> Result<Collected, Refusal>
+fn empty_choice<M: Executor>(
+    heap: &mut ManagedHeap,
+    live: u64,
+    choice: Choice,
+    by: &M,
+) -> Result<Collected, Refusal>
+    requires { M.may_mark by.now }
     ensures ends { EndsChoice live choice.live_words choice.words heap.old choice.pages.items result heap.new }
     ensures scrubbed { needs_no_scrub heap.old.phase ≡ true → IfOk result (λ collected. AreScrubbed heap.new) }
 {
     let (live_words, copied) = (choice.live_words, choice.words);
-    match empty_chosen(heap, choice.pages) {
+    match empty_chosen(heap, choice.pages, by) {
         Ok(emptied) => Ok(Collected {
             live,
             live_words,
@@ -84,7 +95,7 @@ fn empty_after<M: Executor>(
     ensures scrubbed { needs_no_scrub heap.old.phase ≡ true → IfOk result (λ collected. AreScrubbed heap.new) }
 {
     match by.choose(alloc, heap.heap(), percent) {
-        Ok(choice) => empty_choice(heap, live, choice),
+        Ok(choice) => empty_choice(heap, live, choice, by),
         Err(_) => Err(Refusal::Memory),
     }
 }

@@ -1,9 +1,11 @@
-//! Who runs a mark, and measures pages after it: one thread, or several.
+//! Who runs a mark, and measures and empties pages after it: one thread, or several.
 
 ghost use Rattle.std.specs.Prelude.{◌≡◌, ⊤, IfOk};
 ghost use Rattle.std.specs.Thread.{IsSync};
 ghost use Rattle.choosing.specs.Choices.{IsChoice, all_words, words_on};
 ghost use Rattle.managed.specs.Collecting.{EndsMark, EndsRest};
+ghost use Rattle.managed.specs.Emptying.{EndsEmptying};
+ghost use Rattle.managed.specs.Scrubbing.{AreScrubbed};
 ghost use Rattle.collecting.specs.Collections.{WORKER, Collects};
 
 use choosing::{Choice, choose_measured, choose_measured_by};
@@ -13,9 +15,9 @@ use model::Refusal;
 use std::alloc::{AllocError, Global};
 use std::thread::Threads;
 
-/// Runs marks of a heap, and measures its pages. A mark returns how many objects live.
+/// Runs marks of a heap, and measures and empties its pages. A mark returns how many objects live.
 pub(crate) trait Executor {
-    // Holds if marks may be run, and pages measured: threads may share what they need.
+    // Holds if marks may be run, and pages measured and emptied: threads may share what they need.
     ghost may_mark: { Self → Type 0 } = { λ _. ⊤ };
 
     /// Runs a complete mark, as `ManagedHeap::mark` does.
@@ -36,9 +38,15 @@ pub(crate) trait Executor {
         ensures pages { IfOk result (λ choice. IsChoice heap.now percent choice.pages.items) }
         ensures words { IfOk result (λ choice. choice.words ≡ words_on heap.now choice.pages.items) }
         ensures live { IfOk result (λ choice. choice.live_words ≡ all_words heap.now) };
+
+    /// Empties pages, as `ManagedHeap::empty` does.
+    fn empty(&self, heap: &mut ManagedHeap, pages: Vec<u32>) -> Result<(), Refusal>
+        requires { may_mark self.now }
+        ensures ends { EndsEmptying WORKER heap.old pages.items result heap.new }
+        ensures scrubbed { IfOk result (λ done. AreScrubbed heap.new) };
 }
 
-/// Marks whose objects this thread scans; it also measures pages alone.
+/// Marks whose objects this thread scans; it also measures and empties pages alone.
 #[derive(Clone, Copy, Debug)]
 pub(crate) struct Alone;
 
@@ -54,9 +62,13 @@ impl Executor for Alone {
     fn choose(&self, alloc: Global, heap: &Heap, percent: u32) -> Result<Choice, AllocError> {
         choose_measured(alloc, heap, percent)
     }
+
+    fn empty(&self, heap: &mut ManagedHeap, pages: Vec<u32>) -> Result<(), Refusal> {
+        heap.empty(0, pages)
+    }
 }
 
-/// Marks whose objects a number of threads scan; they also measure pages.
+/// Marks whose objects a number of threads scan; they also measure pages, and copy the objects of those to be emptied.
 #[derive(Drop)]
 pub(crate) struct OnThreads<'a, R> {
     pub rt: &'a R,
@@ -76,5 +88,9 @@ impl<'a, R: Threads + Sync> Executor for OnThreads<'a, R> {
 
     fn choose(&self, alloc: Global, heap: &Heap, percent: u32) -> Result<Choice, AllocError> {
         choose_measured_by(self.rt, alloc, heap, percent, self.threads)
+    }
+
+    fn empty(&self, heap: &mut ManagedHeap, pages: Vec<u32>) -> Result<(), Refusal> {
+        heap.empty_by(self.rt, 0, pages, self.threads)
     }
 }

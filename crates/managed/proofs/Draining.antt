@@ -25,7 +25,7 @@ use Rattle.managed.proofs.Going.{each_append}
 use Rattle.managed.proofs.Running.{managed_then, runs_none, runs_then}
 
 -- one accepted step, of a heap in order
-runs_held : StepsHold → (h g : HeapState) (actor : Actor) (step : Step) (answer : Answer) → IsStore h.store → IsHeap h
+pub runs_held : StepsHold → (h g : HeapState) (actor : Actor) (step : Step) (answer : Answer) → IsStore h.store → IsHeap h
     → outcome h actor step ≡ Ok (g, answer) → Runs h (entry actor step answer ∷ []) g
 runs_held law h g actor step answer s i is = record {
   steps = (g, is, refl);

@@ -19,3 +19,4 @@ pub mod ManyData
 pub mod OnePage
 pub mod WordBytes
 pub mod BulkData
+pub mod Ahead

@@ -38,6 +38,15 @@ pub record PagesFreed (w : ℕ) (h : HeapState) (ns : List ℕ) (g : HeapState) 
   pub stay : (m : ℕ) → IsBare h m → IsBare g m
   pub more : free_count g.store ≡ free_count h.store + length ns
 
+-- worker w copied objects of pages ahead, if it did: no page has another state or frame, and no thread or phase changed
+pub record CopiesAhead (w : ℕ) (h g : HeapState) : Type 0 where
+  pub goes : Goes (IsCollecting w) h g
+  pub pages : g.store.pages ≡ h.store.pages
+  pub owners : g.store.owners ≡ h.store.owners
+  pub count : g.store.count ≡ h.store.count
+  pub phase : g.phase ≡ h.phase
+  pub threads : g.threads ≡ h.threads
+
 -- page n isn't emptied: the copying of its objects is rejected with e, or after it the release of its memory
 abbrev pub StopsPage : ℕ → HeapState → ℕ → Refusal → HeapState → Type 0
 StopsPage w h n e g =

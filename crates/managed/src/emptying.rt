@@ -1,16 +1,19 @@
 //! Pages that one worker empties completely.
 
-ghost use Rattle.std.specs.Prelude.{◌≡◌, IfOk, Ok};
+ghost use Rattle.std.specs.Prelude.{◌≡◌, IfOk, Ok, false};
 ghost use Rattle.model.specs.Checkpoints.{all_crossed};
+ghost use Rattle.model.specs.Protections.{has_twice};
 ghost use Rattle.managed.specs.Collecting.{IsCollecting, StandsUnseen};
 ghost use Rattle.managed.specs.Emptying.{EndsEmptying, EndsPage, EndsPages, EndsProtected, EndsRelease};
 ghost use Rattle.managed.specs.Emptying.{pages_in, whether_told};
 ghost use Rattle.managed.specs.Goings.{Goes};
 ghost use Rattle.managed.specs.Scrubbing.{AreScrubbed};
 
+use crate::copier::{Alone, Copier, OnThreads};
 use crate::managed::ManagedHeap;
 use crate::mutating::Mutate;
 use model::{Actor, PageList, Refusal, Reply, Step};
+use std::thread::Threads;
 
 impl ManagedHeap {
     /// Empties complete pages, given by their numbers from 1: protects them, has all threads cross, copies each
@@ -25,25 +28,83 @@ impl ManagedHeap {
         ensures ends { EndsEmptying worker self.old pages.items result self.new }
         ensures scrubbed { IfOk result (λ done. AreScrubbed self.new) }
     {
-        self.empty_steps(worker, pages)
+        self.empty_steps(worker, pages, &Alone)
     }
 
-    fn empty_steps(&mut self, worker: u32, pages: Vec<u32>) -> Result<(), Refusal>
+    /// Empties complete pages as `empty` does, with the same errors. The words of their objects are copied by `threads`
+    /// threads, each to some of the pages that they go to; with fewer than two, or if out of memory, this thread does it.
+    pub fn empty_by<R: Threads + Sync>(
+        &mut self,
+        rt: &R,
+        worker: u32,
+        pages: Vec<u32>,
+        threads: u32,
+    ) -> Result<(), Refusal>
+        ensures goes { Goes (IsCollecting worker) self.old self.new }
+        ensures stands { StandsUnseen self.old self.new }
+        ensures ends { EndsEmptying worker self.old pages.items result self.new }
+        ensures scrubbed { IfOk result (λ done. AreScrubbed self.new) }
+    {
+        self.empty_steps(worker, pages, &OnThreads { rt, threads })
+    }
+
+    fn empty_steps<M: Copier>(
+        &mut self,
+        worker: u32,
+        pages: Vec<u32>,
+        by: &M,
+    ) -> Result<(), Refusal>
+        requires { M.may_copy by.now }
         ensures ends { EndsEmptying worker self.old pages.items result self.new }
         ensures scrubbed { IfOk result (λ done. AreScrubbed self.new) }
     {
         let step = Step::Protect(PageList::new(pages));
         match self.step(Actor::Worker(worker), &step) {
-            Ok(_) => self.empty_listed(worker, &step),
+            Ok(_) => self.empty_listed(worker, &step, by),
             Err(refusal) => Err(refusal),
         }
     }
 
-    fn empty_listed(&mut self, worker: u32, step: &Step) -> Result<(), Refusal>
+    fn empty_listed<M: Copier>(&mut self, worker: u32, step: &Step, by: &M) -> Result<(), Refusal>
+        requires may { M.may_copy by.now }
+        requires once { has_twice (pages_in step.now) ≡ false }
         ensures ends { EndsProtected worker self.old (pages_in step.now) result self.new }
         ensures scrubbed { IfOk result (λ done. AreScrubbed self.new) }
     {
-        self.empty_protected(worker, pages_of(step))
+        self.empty_protected_by(worker, pages_of(step), by)
+    }
+
+    fn empty_protected_by<M: Copier>(
+        &mut self,
+        worker: u32,
+        pages: &[u32],
+        by: &M,
+    ) -> Result<(), Refusal>
+        requires may { M.may_copy by.now }
+        requires once { has_twice pages.now ≡ false }
+        ensures ends { EndsProtected worker self.old pages.now result self.new }
+        ensures scrubbed { IfOk result (λ done. AreScrubbed self.new) }
+    {
+        match self.cross_all(worker) {
+            Ok(()) => self.empty_crossed_by(worker, pages, by),
+            Err(refusal) => Err(refusal),
+        }
+    }
+
+    fn empty_crossed_by<M: Copier>(
+        &mut self,
+        worker: u32,
+        pages: &[u32],
+        by: &M,
+    ) -> Result<(), Refusal>
+        requires may { M.may_copy by.now }
+        requires once { has_twice pages.now ≡ false }
+        requires crossed { all_crossed self.old ≡ Ok tt }
+        ensures ends { EndsPages worker self.old pages.now result self.new }
+        ensures scrubbed { IfOk result (λ done. AreScrubbed self.new) }
+    {
+        by.copy(self, worker, pages);
+        self.empty_crossed(worker, pages)
     }
 
     /// Finishes the emptying of protected pages, as `empty` does after their protection.

@@ -9,6 +9,7 @@
 mod batches;
 mod bytewise;
 mod collecting;
+mod copier;
 mod crossing;
 mod data;
 mod emptying;

@@ -1,19 +1,32 @@
 -- The objects of many pages, which are copied at once.
-use Rattle.std.specs.Prelude.{◌≡◌, ℕ, ◌+◌, ◌++◌, length, List, [], ◌∷◌, Ok}
+use Rattle.std.specs.Prelude.{◌≡◌, ℕ, ◌+◌, ◌++◌, ◌<◌, length, List, [], ◌∷◌, Ok, false}
 use Rattle.model.specs.Bits.{of_page}
-use Rattle.model.specs.Emptying.{copy_page_outcome}
+use Rattle.model.specs.Holding.{IsHeap}
+use Rattle.model.specs.Outcome.{outcome}
+use Rattle.model.specs.Owning.{IsStore}
+use Rattle.model.specs.Protections.{no_page_in}
 use Rattle.model.specs.States.{HeapState}
 use Rattle.model.specs.declared.records.Forwarding.{Forwarding}
+use Rattle.model.specs.declared.steps.Actor.TheVariants.{Worker}
 use Rattle.model.specs.declared.steps.Answer.TheVariants as answers
+use Rattle.model.specs.declared.steps.Step.TheVariants as steps
 use Rattle.page.specs.declared.targets.PageRun.{PageRun}
 use Rattle.page.specs.declared.targets.Target.{Target}
 use Rattle.page.specs.Filling.{runs_of}
+use Rattle.relocate.specs.Runs.{may_copy_page}
 
--- all objects of these pages were copied, page by page
-abbrev pub CopiesPages : HeapState → List ℕ → HeapState → Type 0
-CopiesPages h [] g = g ≡ h
-CopiesPages h (p ∷ ps) g = (m : HeapState) × (n : ℕ) × (copy_page_outcome h p ≡ Ok (m, answers.CopiedPage n))
-    × CopiesPages m ps g
+-- worker w copied all objects of these pages, page by page; the invariants of a heap and its store hold in between
+abbrev pub CopiesPages : ℕ → HeapState → List ℕ → HeapState → Type 0
+CopiesPages w h [] g = g ≡ h
+CopiesPages w h (p ∷ ps) g = (m : HeapState) × (n : ℕ)
+    × (outcome h (Worker w) (steps.CopyPage p) ≡ Ok (m, answers.CopiedPage n))
+    × IsStore m.store × IsHeap m × CopiesPages w m ps g
+
+-- worker w may copy all objects of page n
+pub record MayCopyPage (w : ℕ) (h : HeapState) (n : ℕ) : Type 0 where
+  pub worker : w < length h.workers
+  pub page : no_page_in h.store n ≡ false
+  pub tests : may_copy_page h n ≡ Ok tt
 
 -- runs of a page that follow each other are k entries from number e on
 abbrev pub Tiles : ℕ → ℕ → ℕ → List PageRun → Type 0

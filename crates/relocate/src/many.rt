@@ -1,14 +1,13 @@
 //! Copying the objects of many pages at once, by threads.
 
-ghost use Rattle.std.specs.Prelude.{◌≡◌, ◌++◌, ◌∷◌, [], true, false, length, IfOk, Ok};
+ghost use Rattle.std.specs.Prelude.{◌≡◌, ◌++◌, ◌∷◌, [], true, false, length, IfOk};
 ghost use Rattle.heap.specs.Filling.{AreRunsTo, IsRunTo};
 ghost use Rattle.model.specs.Bits.{of_page};
 ghost use Rattle.model.specs.Owning.{Each};
 ghost use Rattle.model.specs.Protections.{has_twice};
 ghost use Rattle.model.specs.States.{HeapState};
 ghost use Rattle.page.specs.Filling.{runs_of};
-ghost use Rattle.relocate.specs.Many.{AddsTo, AreTiled, CopiesPages};
-ghost use Rattle.relocate.specs.Runs.{may_copy_page};
+ghost use Rattle.relocate.specs.Many.{AddsTo, AreTiled, CopiesPages, MayCopyPage};
 
 use crate::whole::{may_copy_page, run_at};
 use heap::Heap;
@@ -80,12 +79,22 @@ fn list_runs(alloc: Global, heap: &Heap, pages: &[u32]) -> Result<Vec<Target>, A
     Ok(targets)
 }
 
-/// Returns whether the objects of all these pages may be copied.
-fn may_copy_all(heap: &Heap, pages: &[u32]) -> bool
-    ensures { result ≡ true → Each pages.now (λ n. may_copy_page heap.now n ≡ Ok tt) }
+/// Returns whether a worker may copy the objects of a page.
+fn may_copy(heap: &Heap, worker: u32, page: u32) -> bool
+    ensures { result ≡ true → MayCopyPage worker heap.now page }
+{
+    if worker as usize >= heap.workers().len() || page == 0 || page > heap.memory().page_count() {
+        return false;
+    }
+    matches!(may_copy_page(heap, page), Ok(()))
+}
+
+/// Returns whether a worker may copy the objects of all these pages.
+fn may_copy_all(heap: &Heap, worker: u32, pages: &[u32]) -> bool
+    ensures { result ≡ true → Each pages.now (MayCopyPage worker heap.now) }
 {
     for index in 0..pages.len() {
-        if may_copy_page(heap, pages[index]).is_err() {
+        if !may_copy(heap, worker, pages[index]) {
             return false;
         }
     }
@@ -93,21 +102,23 @@ fn may_copy_all(heap: &Heap, pages: &[u32]) -> bool
 }
 
 /// Copies all objects of From pages that aren't copied yet to their planned places, each page named once: it has the
-/// effect of `copy_page` for each in turn. The words of each target are written by one of `threads` threads, if no
-/// target is one of the pages. Pages count from 1.
+/// effect of the step `CopyPage` of a worker for each page in turn. The words of each target are written by one of
+/// `threads` threads, if the targets' numbers rise. Pages count from 1, workers from 0.
 ///
-/// Returns whether it did so. It does nothing if `copy_page` would fail for a page, or if out of memory.
+/// Returns whether it did so. It does nothing if one of these steps would be rejected, or if out of memory.
 pub fn copy_pages_by<R: Threads + Sync>(
     rt: &R,
     heap: &mut Heap,
+    worker: u32,
     pages: &[u32],
     threads: u32,
 ) -> bool
     requires { has_twice pages.now ≡ false }
-    ensures copied { result ≡ true → CopiesPages heap.old pages.now heap.new }
+    ensures copied { result ≡ true → CopiesPages worker heap.old pages.now heap.new }
     ensures stays { result ≡ false → heap.new ≡ heap.old }
 {
-    if !may_copy_all(heap, pages) {
+    heap.law();
+    if !may_copy_all(heap, worker, pages) {
         return false;
     }
     let Ok(targets) = list_runs(heap.allocator(), heap, pages) else {
