@@ -1,9 +1,11 @@
 -- Copies of all objects of a page: their result, and when they fail.
-use Rattle.std.proofs.Common.{◌≡◌, ℕ, zero, suc, ◌+◌, ◌*◌, ◌/◌, ◌%◌, Bool, true, false, cond, not, length, count_by}
-use Rattle.std.proofs.Common.{Option, Some, None}
+use Rattle.std.proofs.Common.{◌≡◌, ℕ, zero, suc, ◌+◌, ◌*◌, ◌/◌, ◌%◌, ◌||◌, nat_eq, Bool, true, false, cond, not, length, count_by}
+use Rattle.std.proofs.Common.{List, [], ◌∷◌, Option, Some, None}
 use Rattle.std.proofs.Common.{refl, sym, ◌∙◌, ap}
-use Rattle.std.specs.List.{slice_get}
+use Rattle.std.specs.List.{list_any, slice_get}
 use Rattle.std.specs.Prelude.{Result, Ok, Err}
+use Rattle.std.proofs.lemmas.Bool.{not-true}
+use Rattle.std.proofs.lemmas.Option.{same_Some}
 use Rattle.model.specs.declared.records.Forwarding.{Forwarding}
 use Rattle.model.specs.declared.steps.Answer.{Answer}
 use Rattle.model.specs.declared.steps.Answer.TheVariants as answers
@@ -19,6 +21,7 @@ use Rattle.model.specs.Phases.{is_idle}
 use Rattle.model.specs.Refusing.{◌>>=◌, or_refuse, refuse_if, Outcome}
 use Rattle.model.specs.States.{HeapState}
 use Rattle.model.specs.Stores.{state_at, is_from, with_words, page_at}
+use Rattle.forward.proofs.Copies.{none_left as all_copied}
 use Rattle.heap.specs.Runs.{with_entry, with_entries}
 use Rattle.relocate.specs.Runs.{may_copy_page}
 
@@ -129,6 +132,44 @@ accepted h g n count copied e all is many = by_parts h n ∙ ap (λ r. first_the
           ∙ ap (λ k. with_entries h n 0 k) (sym all) ∙ sym is) i,
       answers.CopiedPage (sym many i),
     ))
+
+-- if no entry is left to be copied, nothing happens
+
+element_copied : (fs : List Forwarding) (e : ℕ) (f : Forwarding) → list_any is_uncopied fs ≡ false
+    → slice_get fs e ≡ Some f → f.copied ≡ true
+element_copied [] e f none at = absurd (cc)
+element_copied (x ∷ fs) zero f none at =
+    ap (λ (y : Forwarding). y.copied) (sym (same_Some _ _ at)) ∙ by_copied x.copied refl none
+  where
+    by_copied : (b : Bool) → x.copied ≡ b → not b || list_any is_uncopied fs ≡ false → x.copied ≡ true
+    by_copied true c z = c
+    by_copied false c z = absurd (cc)
+element_copied (x ∷ fs) (suc e) f none at = element_copied fs e f (rest (not x.copied) none) at
+  where
+    rest : (b : Bool) → b || list_any is_uncopied fs ≡ false → list_any is_uncopied fs ≡ false
+    rest true z = absurd (cc)
+    rest false z = z
+
+entries_same : (h : HeapState) (n e k : ℕ) → list_any is_uncopied (of_page h.sides n) ≡ false
+    → with_entries h n e k ≡ h
+entries_same h n e zero none = refl
+entries_same h n e (suc k) none =
+    ap (λ g. with_entries g n (e + 1) k) (by_entry (slice_get (of_page h.sides n) e) refl)
+    ∙ entries_same h n (e + 1) k none
+  where
+    by_entry : (o : Option Forwarding) → slice_get (of_page h.sides n) e ≡ o → with_entry h n o ≡ h
+    by_entry None at = refl
+    by_entry (Some f) at = ap (λ b. cond b h (with_copy h (n * h.store.words + f.offset) f.to))
+        (element_copied (of_page h.sides n) e f none at)
+
+pub none_left : (h : HeapState) (n copied : ℕ) → may_copy_page h n ≡ Ok tt
+    → copied ≡ count_by is_uncopied (of_page h.sides n) → copied ≡ 0
+    → copy_page_outcome h n ≡ Ok (h, answers.CopiedPage 0)
+none_left h n copied may many none =
+    accepted h h n (length (of_page h.sides n)) 0 may refl
+    (sym (entries_same h n 0 (length (of_page h.sides n)) (not-true _ (sym (all_copied (of_page h.sides n))
+    ∙ ap (λ k. nat_eq k 0) (sym many ∙ none)))))
+    (sym none ∙ many)
 
 -- after the entries of a page are copied, the objects of another may still be copied
 
