@@ -2,9 +2,9 @@
 # Runs tests of calls that allocate with each of their memory requests refused in turn, one a run.
 # Such a test has to end with the error that the call returned: out of memory, or a failed write if
 # the destination is a list in memory. The first run in which no request is refused is the last.
-# A mark on threads is also run with each start of a thread refused, which changes nothing. The
-# first argument is the folder of the crates whose tests are built: where 'rt ci' built them, or the
-# repository's own.
+# A mark and an emptying on threads are also run with each start of a thread refused, which changes
+# nothing. The first argument is the folder of the crates whose tests are built: where 'rt ci' built
+# them, or the repository's own.
 
 cd "$(dirname "$0")/.." || exit 1
 crates=${1:-crates}
@@ -39,6 +39,7 @@ for named in \
     test_library:protections::four_pages_of_a_managed_heap \
     test_library:preparing::parts_go_on \
     test_library:emptying::pages_are_emptied \
+    test_library:emptying::pages_are_emptied_on_threads \
     test_library:emptying::a_heap_is_made \
     test_library:emptying::a_heap_is_verified \
     test_library:sharing::a_heap_is_shared \
@@ -64,17 +65,23 @@ for named in \
     refuse_each "$test" "$crates/$crate/out/${crate}_tests" "$test"
 done
 
-# A mark on four threads starts three for its wave, and three for what the parts have sent to each
-# other. It ends without each of them.
+# Without each of the threads that they start, these end as with them.
 told() {
     false
 }
 
-test=waving::four_threads_mark_as_one
-refuse_in_turn REFUSE_START "$test" "$crates/test_heap/out/test_heap_tests" "$test"
-if [ "$number" != 7 ]; then
-    echo "failed: $test: $((number - 1)) threads are started, and not 6"
-    failed=$((failed + 1))
-fi
+# starts CRATE TEST COUNT: refuses each start of a thread in turn. There have to be so many.
+starts() {
+    refuse_in_turn REFUSE_START "$2" "$crates/$1/out/${1}_tests" "$2"
+    if [ "$((number - 1))" != "$3" ]; then
+        echo "failed: $2: $((number - 1)) threads are started, and not $3"
+        failed=$((failed + 1))
+    fi
+}
+
+# A mark on four threads starts three for its wave, and three for what the parts have sent to each
+# other. Objects that are copied to two targets take one thread besides that of the call.
+starts test_heap waving::four_threads_mark_as_one 6
+starts test_library emptying::pages_are_emptied_on_threads 1
 echo "$passed passed, $failed failed"
 [ "$failed" = 0 ]

@@ -1,4 +1,4 @@
-//! Emptying pages of a managed heap by one call.
+//! Emptying pages of a managed heap by one call, by one thread and on several.
 
 use crate::heaps::{Moving, fill_and_close, new_managed};
 use crate::same::same;
@@ -8,6 +8,7 @@ use model::Phase;
 use std::alloc::{AllocError, Global};
 use std::process::Abort;
 use std::test::Fail;
+use std::thread::Threads;
 use verify::Verdict;
 
 /// A heap whose pages are emptied.
@@ -45,6 +46,39 @@ fn empties(rt: &impl Abort, alloc: Global, heap: &mut impl Emptying) -> Result<(
 fn pages_are_emptied(rt: HostRuntime) -> Result<(), Fail> {
     let mut heap = new_managed(rt.alloc())?;
     empties(&rt, rt.alloc(), &mut heap)
+}
+
+/// A heap is emptied by this thread, and another on several: both are the same then.
+fn empties_as<R: Abort + Threads + Sync>(
+    rt: &R,
+    alloc: Global,
+    one: &mut ManagedHeap,
+    other: &mut ManagedHeap,
+) -> Result<(), Fail> {
+    empties(rt, alloc, one)?;
+    fill_and_close(other)??;
+    let pages = Vec::from_slice(alloc, &[3, 1, 4, 2])?;
+    other.empty_by(rt, 0, pages, 4)?;
+    let (left, right) = (one.text(alloc)?, other.text(alloc)?);
+    same(rt, left.as_str(), right.as_str());
+    Ok(())
+}
+
+/// The same with a second heap, which is made while the first is another function's: each `?` here would drop that field
+/// by field, for minutes of proof.
+fn empties_on_threads<R: Abort + Threads + Sync>(
+    rt: &R,
+    alloc: Global,
+    one: &mut ManagedHeap,
+) -> Result<(), Fail> {
+    let mut other = new_managed(alloc)?;
+    empties_as(rt, alloc, one, &mut other)
+}
+
+#[test]
+fn pages_are_emptied_on_threads(rt: HostRuntime) -> Result<(), Fail> {
+    let mut one = new_managed(rt.alloc())?;
+    empties_on_threads(&rt, rt.alloc(), &mut one)
 }
 
 /// Makes a heap, and again if that was out of memory, which the second value tells.
