@@ -26,9 +26,7 @@ pub(crate) trait Copier {
 pub(crate) struct Alone;
 
 impl Copier for Alone {
-    fn copy(&self, heap: &mut ManagedHeap, worker: u32, pages: &[u32]) {
-        let _ = (&self, heap, worker, pages);
-    }
+    fn copy(&self, _heap: &mut ManagedHeap, _worker: u32, _pages: &[u32]) {}
 }
 
 /// Copies on a number of threads; with fewer than two, it copies nothing.
