@@ -1,5 +1,5 @@
 -- Runs of many pages: the words are written at once, and then the copies are noted.
-use Rattle.std.proofs.Common.{◌≡◌, ◌≢◌, ◌⊎◌, inl, inr, ℕ, zero, suc, ◌+◌, ◌-◌, ◌≤◌, ◌<◌, ◌==◌, Bool, true, false, cond}
+use Rattle.std.proofs.Common.{◌≡◌, ◌≢◌, ℕ, zero, suc, ◌+◌, ◌-◌, ◌≤◌, ◌<◌, ◌==◌, Bool, true, false, cond}
 use Rattle.std.proofs.Common.{List, [], ◌∷◌, ◌++◌, length, map, drop, get_or, set, Option, Some, None, nat_eq}
 use Rattle.std.proofs.Common.{refl, sym, ◌∙◌, ap, subst, arith}
 use Rattle.std.specs.List.{slice_get}
@@ -25,7 +25,7 @@ use Rattle.page.specs.Filling.{with_runs as stored_runs}
 use Rattle.page.specs.Runs.{source_with, with_run}
 use Rattle.page.proofs.Runs.{words_keep}
 use Rattle.heap.specs.Filling.{AreInOrder, AreRunsTo, AreSmall, IsBehind, IsRunTo, noted_runs, with_runs}
-use Rattle.heap.specs.Runs.{GoTo, Notes, notes, noted_by, noted_from, noted_starts, with_entries}
+use Rattle.heap.specs.Runs.{GoTo, Notes, notes, noted_by, noted_from, with_entries}
 use Rattle.heap.proofs.Runs.{behind_stay, entries_keep, page_rises, runs}
 
 -- notes of another page's copies

@@ -1,16 +1,14 @@
 -- The pages of parts in one list, with the indexes of their records.
-use Rattle.std.proofs.Common.{◌≡◌, ℕ, zero, suc, ◌+◌, ◌≤◌, ◌<◌, Bool, List, [], ◌∷◌, ◌++◌, length, map, get_or, set}
-use Rattle.std.proofs.Common.{Option, None, Some, refl, sym, ◌∙◌, ap, arith, subst, true, false}
+use Rattle.std.proofs.Common.{◌≡◌, ℕ, zero, suc, ◌+◌, ◌≤◌, Bool, List, [], ◌∷◌, ◌++◌, length, map, set}
+use Rattle.std.proofs.Common.{Option, None, Some, refl, sym, ◌∙◌, ap, arith, subst}
 use Rattle.std.specs.List.{slice_get}
-use Rattle.std.proofs.lemmas.List.{set_past}
-use Rattle.std.proofs.lemmas.Option.{slice_get_within}
 use Rattle.model.specs.declared.records.Page.{Page}
 use Rattle.model.specs.Stores.{changed_frame, changed_in, frame_in}
 use Rattle.page.specs.declared.owned.OwnedPage.{OwnedPage}
 use Rattle.page.specs.declared.owned.Part.{Part}
 use Rattle.page.specs.Owned.{Swapped, SwappedParts, lent_frame, put_frame, words_or}
 use Rattle.heap.specs.Owning.{ArePlaced, SwappedRows, SwappedRowsOf}
-use Rattle.heap.proofs.Slots.{AreAlike, AreRising, Slots, SwapsIn, get_in, gets, put_in, puts, rising_more}
+use Rattle.heap.proofs.Slots.{AreRising, Slots, SwapsIn, get_in, put_in, rising_more}
 
 -- what pages have, each with the index of its record
 abbrev pub flat : {X : Type 0} → (OwnedPage → X) → ℕ → List OwnedPage → List (ℕ × X)

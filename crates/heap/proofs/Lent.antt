@@ -1,15 +1,15 @@
 -- Parts get the pages of a heap.
-use Rattle.std.proofs.Common.{◌≡◌, ◌≢◌, ℕ, zero, suc, ◌+◌, ◌≤◌, ◌<◌, Bool, List, [], ◌∷◌, ◌++◌, length, map, get_or, set}
-use Rattle.std.proofs.Common.{Option, None, Some, refl, sym, ◌∙◌, ap, arith, subst, true, false}
+use Rattle.std.proofs.Common.{◌≡◌, ℕ, suc, ◌+◌, ◌≤◌, Bool, List, [], ◌∷◌, length, get_or, set}
+use Rattle.std.proofs.Common.{refl, sym, ◌∙◌, ap, arith, subst, true, false}
 use Rattle.std.proofs.lemmas.List.{get_or-set_other}
 use Rattle.model.specs.declared.records.Page.{Page}
 use Rattle.model.specs.States.{HeapState}
 use Rattle.page.specs.declared.owned.OwnedPage.{OwnedPage}
 use Rattle.page.specs.declared.owned.Part.{Part}
 use Rattle.page.specs.Owned.{Swapped, SwappedParts, lent_frame, put_frame}
-use Rattle.heap.specs.Owning.{AreBack, AreBlank, AreBlankPages, AreLent, ArePagesOf, ArePlaced, SwappedRows, SwappedRowsOf, page_of}
+use Rattle.heap.specs.Owning.{AreBack, AreBlank, AreBlankPages, AreLent, ArePagesOf, ArePlaced, SwappedRows, SwappedRowsOf}
 use Rattle.heap.proofs.Flat.{frame_slot, lent_is, put_frame_is}
-use Rattle.heap.proofs.Slots.{AreOwn, get_in, get_other, put_in}
+use Rattle.heap.proofs.Slots.{AreOwn, get_other, put_in}
 
 -- ---- bitmaps
 

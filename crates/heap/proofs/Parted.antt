@@ -1,24 +1,24 @@
 -- A heap whose pages threads have owned.
-use Rattle.std.proofs.Common.{◌≡◌, ℕ, zero, suc, ◌+◌, ◌≤◌, ◌<◌, Bool, List, [], ◌∷◌, ◌++◌, length, map, get_or, set}
-use Rattle.std.proofs.Common.{Option, None, Some, refl, sym, ◌∙◌, ap, arith, subst, true, false}
+use Rattle.std.proofs.Common.{◌≡◌, ℕ, suc, ◌+◌, Bool, List, [], ◌∷◌, ◌++◌, length, map, set}
+use Rattle.std.proofs.Common.{refl, sym, ◌∙◌, ap, subst}
 use Rattle.std.proofs.lemmas.Option.{same_Some}
 use Rattle.model.specs.declared.records.Page.{Page}
-use Rattle.model.specs.Holding.{AreRowsOf, IsHeap}
+use Rattle.model.specs.Holding.{IsHeap}
 use Rattle.model.specs.Owning.{IsStore}
 use Rattle.model.specs.States.{Reference, HeapState}
 use Rattle.model.specs.Stores.{StoreState, page_at}
 use Rattle.page.specs.declared.owned.OwnedPage.{OwnedPage}
 use Rattle.page.specs.declared.owned.Part.{Part}
-use Rattle.page.specs.Owned.{AreShort, Swapped, SwappedParts, lent_frame, put_frame}
-use Rattle.part_scans.specs.Scenes.{SceneState, scene_of}
-use Rattle.heap.specs.Owning.{AllScanned, AreBlank, AreBlankPages, ArePlaced, AreWordless, AreWordlessPages, ScansParts, ScansStore}
-use Rattle.heap.specs.Owning.{SwappedRows, SwappedRowsOf, put_page, put_pages, put_parts}
+use Rattle.page.specs.Owned.{Swapped, SwappedParts, put_frame}
+use Rattle.part_scans.specs.Scenes.{scene_of}
+use Rattle.heap.specs.Owning.{AreBlank, AreBlankPages, ArePlaced, AreWordless, AreWordlessPages, ScansParts, ScansStore}
+use Rattle.heap.specs.Owning.{SwappedRows, SwappedRowsOf, put_pages, put_parts}
 use Rattle.heap.proofs.Flat.{flat, flat_parts, frame_slot, greys_in, marks_in, parts_greys, parts_marks, placed_rising}
 use Rattle.heap.proofs.Flat.{put_frame_is, row_slot, words_in}
 use Rattle.heap.proofs.Keeping.{store_keeps}
 use Rattle.heap.proofs.Lent.{back_then, parts_lent, rows_back, words_back}
 use Rattle.heap.proofs.Marking.{marks_keep}
-use Rattle.heap.proofs.Scanning.{are_worded, frames_after, matched_placed, own_frames, placed_short, records_small}
+use Rattle.heap.proofs.Scanning.{are_worded, frames_after, matched_placed, own_frames}
 use Rattle.heap.proofs.Shapes.{scanned_sized}
 use Rattle.heap.proofs.Sizing.{AreMatched, matched_alike, parts_long, puts_sized}
 use Rattle.heap.proofs.Slots.{AreOwn, puts, puts_both, puts_long, puts_over, swaps_puts}

@@ -1,5 +1,5 @@
 -- Threads scan parts that have the words of their pages.
-use Rattle.std.proofs.Common.{◌≡◌, ℕ, zero, suc, ◌+◌, ◌*◌, ◌≤◌, ◌<◌, Bool, List, [], ◌∷◌, ◌++◌, length, map, get_or, nat_le}
+use Rattle.std.proofs.Common.{◌≡◌, ℕ, suc, ◌+◌, ◌*◌, ◌≤◌, ◌<◌, Bool, List, [], ◌∷◌, length, get_or, nat_le}
 use Rattle.std.proofs.Common.{Option, None, Some, refl, sym, ◌∙◌, ap, arith, subst, true, false}
 use Rattle.std.specs.List.{slice_get}
 use Rattle.std.proofs.lemmas.Option.{same_Some}
@@ -10,14 +10,14 @@ use Rattle.std.specs.Prelude.{if◌then◌else◌}
 use Rattle.model.specs.Stores.{StoreState, frame_in, record_count}
 use Rattle.page.specs.declared.owned.OwnedPage.{OwnedPage}
 use Rattle.page.specs.declared.owned.Part.{Part}
-use Rattle.page.specs.Owned.{AreShort, Swapped, SwappedParts, lent_frame}
+use Rattle.page.specs.Owned.{AreShort, SwappedParts, lent_frame}
 use Rattle.part_scans.specs.Scenes.{SceneState}
 use Rattle.part_scans.specs.Scans.{PartScanned}
 use Rattle.heap.specs.Owning.{AllScanned, ArePlaced, AreWordless, AreWordlessPages}
 use Rattle.heap.proofs.Flat.{flat, flat_parts, frame_slot, lent_is, parts_words, placed_rising, words_in}
 use Rattle.heap.proofs.Lent.{AreAsWords, WordsLent, long_words, words_later, words_taken}
 use Rattle.heap.proofs.Shapes.{AreSized, SizedParts, long_sized}
-use Rattle.heap.proofs.Sizing.{AreLong, AreMatched, long_both, matched_alike, puts_sized}
+use Rattle.heap.proofs.Sizing.{AreLong, AreMatched, long_both, matched_alike}
 use Rattle.heap.proofs.Slots.{AreOwn, puts, puts_over, swaps_puts}
 
 -- no two pages have one frame

@@ -1,18 +1,18 @@
 -- Scans leave how many words and bits pages have.
-use Rattle.std.proofs.Common.{◌≡◌, ℕ, zero, suc, ◌+◌, ◌/◌, ◌%◌, Bool, List, [], ◌∷◌, ◌++◌, length, map, get_or, set}
-use Rattle.std.proofs.Common.{Option, None, Some, refl, sym, ◌∙◌, ap, arith, subst, true, false}
+use Rattle.std.proofs.Common.{◌≡◌, ℕ, zero, suc, ◌+◌, ◌%◌, Bool, List, [], ◌∷◌, ◌++◌, length, get_or}
+use Rattle.std.proofs.Common.{Option, None, Some, refl, sym, ◌∙◌, ap, subst, true, false}
 use Rattle.std.specs.List.{slice_get}
 use Rattle.std.specs.Prelude.{if◌then◌else◌}
 use Rattle.std.proofs.Math.ListN.{length-set}
 use Rattle.refword.specs.Words.{bits_of}
 use Rattle.model.specs.Bits.{put_bit}
 use Rattle.model.specs.References.{read_reference}
-use Rattle.model.specs.States.{Reference, HeapState, change_at, change_found}
+use Rattle.model.specs.States.{Reference, change_at, change_found}
 use Rattle.page.specs.declared.owned.OwnedPage.{OwnedPage}
 use Rattle.page.specs.declared.owned.Part.{Part}
 use Rattle.part_scans.specs.Scenes.{SceneState, marked_in}
 use Rattle.part_scans.specs.Scans.{Scans, end_on, is_own, mark_bits, mark_on, mark_own, mark_target, mark_word, mark_words, own_index}
-use Rattle.part_scans.specs.Scans.{PartScanned, all_taken, scan_own, send_words, word_of, write_on}
+use Rattle.part_scans.specs.Scans.{all_taken, scan_own, send_words, word_of, write_on}
 use Rattle.heap.specs.Owning.{AllScanned}
 
 -- a page has as many words and bits as another

@@ -1,12 +1,10 @@
 -- Elements that are put into slots are as long as those that they replace.
-use Rattle.std.proofs.Common.{◌≡◌, ℕ, zero, suc, ◌+◌, ◌≤◌, Bool, List, [], ◌∷◌, ◌++◌, length, map, get_or, set}
+use Rattle.std.proofs.Common.{◌≡◌, ℕ, zero, suc, ◌+◌, List, [], ◌∷◌, ◌++◌, length, map, get_or, set}
 use Rattle.std.proofs.Common.{Option, None, Some, refl, sym, ◌∙◌, ap, arith, subst, true, false}
-use Rattle.model.specs.declared.records.Page.{Page}
 use Rattle.model.specs.States.{HeapState}
 use Rattle.page.specs.declared.owned.OwnedPage.{OwnedPage}
 use Rattle.page.specs.declared.owned.Part.{Part}
-use Rattle.page.specs.Owned.{Swapped, SwappedParts, lent_frame}
-use Rattle.heap.specs.Owning.{AreLent, ArePagesOf, SwappedRows, SwappedRowsOf, page_of}
+use Rattle.heap.specs.Owning.{AreLent, ArePagesOf}
 use Rattle.heap.proofs.Flat.{flat, flat_parts, frame_slot, greys_in, lent_is, marks_in, row_slot, words_in}
 use Rattle.heap.proofs.Shapes.{AreSized, SizedParts}
 use Rattle.heap.proofs.Slots.{AreAlike, Slots, get_in, put_in, puts}

@@ -1,7 +1,6 @@
 -- Elements of a list that are put into slots, and taken out of them, by the indexes of pages.
-use Rattle.std.proofs.Common.{◌≡◌, ◌≢◌, ◌⊎◌, inl, inr, ℕ, zero, suc, ◌+◌, ◌≤◌, ◌<◌, List, [], ◌∷◌, ◌++◌, length, map, get_or, set}
-use Rattle.std.proofs.Common.{Option, None, Some, refl, sym, ◌∙◌, ap, arith, subst, true, false}
-use Rattle.std.proofs.lemmas.Bool.{cases_eq}
+use Rattle.std.proofs.Common.{◌≡◌, ◌≢◌, ℕ, ◌+◌, ◌≤◌, List, [], ◌∷◌, ◌++◌, length, get_or, set}
+use Rattle.std.proofs.Common.{Option, None, Some, refl, sym, ◌∙◌, ap, arith, true, false}
 use Rattle.std.proofs.lemmas.List.{get_or-set_other, set_comm, set-set}
 use Rattle.std.proofs.Math.ListN.{length-set}
 

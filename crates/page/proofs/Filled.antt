@@ -3,7 +3,6 @@ use Rattle.std.proofs.Common.{◌≡◌, ◌≢◌, ℕ, zero, suc, ◌+◌, ◌
 use Rattle.std.proofs.Common.{Option, Some, None, cond, Bool, true, false, refl, sym, ap, ◌∙◌, subst, arith, ne_eqb}
 use Rattle.std.proofs.Common.{drop, unwrap_or}
 use Rattle.std.specs.List.{slice_get}
-use Rattle.std.specs.Option.{option_and_then}
 use Rattle.std.proofs.lemmas.Bool.{true≢false}
 use Rattle.std.proofs.lemmas.List.{drop_more, drop_all}
 use Rattle.std.proofs.lemmas.Option.{get_or_from_slice_get, same_Some, slice_get-get_or, slice_get_within}
@@ -18,7 +17,7 @@ use Rattle.pieces.specs.Pieces.{SourceState, laid_from}
 use Rattle.pieces.proofs.Cuts.{length_all}
 use Rattle.page.specs.declared.targets.PageRun.{PageRun}
 use Rattle.page.specs.declared.targets.Target.{Target}
-use Rattle.page.specs.Filling.{AllHaveEntries, AreFilled, AreOutside, FillsFrames, IsOutside, SourcesState, SwapsTargets, all_filled}
+use Rattle.page.specs.Filling.{AllHaveEntries, AreFilled, AreOutside, FillsFrames, SourcesState, SwapsTargets, all_filled}
 use Rattle.page.specs.Filling.{filled, is_from_in, laid_runs, page_in, runs_of, source_on, with_runs}
 use Rattle.page.specs.Owned.{words_or}
 use Rattle.page.specs.Runs.{known, source_with, with_run}

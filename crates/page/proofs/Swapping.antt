@@ -130,9 +130,11 @@ targets_next records frames targets i now then at d q so_far within put lent aft
     subst (SwapsTargets records frames targets after)
     (sym (ap (λ xs. xs ++ rest) front ∙ together (take i at) q rest))
     (so_far after (q ∷ rest)
-    (subst (λ xs. SwapsTargets records now xs after (q ∷ rest)) (sym here)
-    (lent, subst (λ fs. SwapsTargets records fs (drop (i + 1) at) after rest) put
-    (subst (λ xs. SwapsTargets records then xs after rest) back s))))
+    (subst (λ xs. SwapsTargets records now xs after (q ∷ rest)) (sym here) (
+      lent,
+      subst (λ fs. SwapsTargets records fs (drop (i + 1) at) after rest) put
+          (subst (λ xs. SwapsTargets records then xs after rest) back s),
+    )))
 
 pub targets_last : (records : List Page) (frames : List (List ℕ)) (targets : List Target) (i : ℕ)
     (now : List (List ℕ)) (at : List Target) → TargetsRest records frames targets i now at → length at ≤ i

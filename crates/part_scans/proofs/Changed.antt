@@ -49,14 +49,6 @@ pub changed_there : {X : Type 0} (xs : List X) (i : ℕ) (x : X) (f : X → X) �
     → change_at xs i f ≡ set xs i (f x)
 changed_there xs i x f e = ap (λ o. change_found xs i o f) e
 
-pub set_two : {X : Type 0} (xs : List X) (i j : ℕ) (v w : X) → (i ≡ j → v ≡ w)
-    → set (set xs i v) j w ≡ set (set xs j w) i v
-set_two [] i j v w k = refl
-set_two (x ∷ xs) zero zero v w k = ap (λ y. y ∷ xs) (sym (k refl))
-set_two (x ∷ xs) zero (suc j) v w k = refl
-set_two (x ∷ xs) (suc i) zero v w k = refl
-set_two (x ∷ xs) (suc i) (suc j) v w k = ap (λ ys. x ∷ ys) (set_two xs i j v w (λ e. k (ap suc e)))
-
 -- a bit that is set already
 pub set_again : (row : List Bool) (i : ℕ) (d : Bool) → slice_get row i ≡ Some d → set row i d ≡ row
 set_again [] i d e = refl

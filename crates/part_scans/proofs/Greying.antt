@@ -15,7 +15,8 @@ use Rattle.model.proofs.Tables.{length_changed}
 use Rattle.page.specs.declared.owned.OwnedPage.{OwnedPage}
 use Rattle.part_scans.specs.Scans.{end_on, mark_on, word_of, write_on, is_grey_own, is_marked_own, bit_in}
 use Rattle.part_scans.specs.Waiting.{IsNoneOf, IsWaiting, all_grey, grey_at, grey_on, white_on}
-use Rattle.part_scans.proofs.Changed.{changed_again, changed_there, changed_two, set_again, set_two}
+use Rattle.part_scans.proofs.Changed.{changed_again, changed_there, changed_two, set_again}
+use Rattle.page.proofs.Changes.{set_two}
 
 -- ---- one page
 

@@ -85,9 +85,13 @@ tiles_more : (p e k : ℕ) (xs : List PageRun) (r : PageRun) → Tiles p e k xs 
     → Tiles p e (k + r.count) (xs ++ r ∷ [])
 tiles_more p e k [] r t a b =
     (0, a, (let z : r.first ≡ e = omega (arith, t, b) in z), (let y : k + r.count ≡ r.count + 0 = omega (arith, t) in y), refl)
-tiles_more p e k (x ∷ xs) r (j, page, first, sum, rest) a b =
-    (j + r.count, page, first, (let z : k + r.count ≡ x.count + (j + r.count) = omega (arith, sum) in z),
-    tiles_more p (e + x.count) j xs r rest a (omega (arith, sum, b)))
+tiles_more p e k (x ∷ xs) r (j, page, first, sum, rest) a b = (
+  j + r.count,
+  page,
+  first,
+  (let z : k + r.count ≡ x.count + (j + r.count) = omega (arith, sum) in z),
+  tiles_more p (e + x.count) j xs r rest a (omega (arith, sum, b)),
+)
 
 -- they lie on the page, from their first entry on
 tiles_within : (p e k : ℕ) (xs : List PageRun) → Tiles p e k xs → Each xs (λ q. (q.page ≡ p) × (e ≤ q.first))
@@ -140,11 +144,11 @@ tiles_order : (p e k : ℕ) (xs ys : List PageRun) → Tiles p e k xs → Each y
     → AreInOrder ys → AreInOrder (xs ++ ys)
 tiles_order p e k [] ys t others order = order
 tiles_order p e k (r ∷ xs) ys t others order = (
-    each_both (IsBehind r) xs ys
-        (λ i q at same. omega (arith, (tiles_within p (e + r.count) t.0 xs t.4 i q at).1, t.2))
-        (λ i q at same. absurd (others i q at (same ∙ t.1))),
-    tiles_order p (e + r.count) t.0 xs ys t.4 others order,
-  )
+  each_both (IsBehind r) xs ys
+      (λ i q at same. omega (arith, (tiles_within p (e + r.count) t.0 xs t.4 i q at).1, t.2))
+      (λ i q at same. absurd (others i q at (same ∙ t.1))),
+  tiles_order p (e + r.count) t.0 xs ys t.4 others order,
+)
 
 pub tiled_order : (sides : List (List Forwarding)) (ps : List ℕ) (rs : List PageRun) → AreTiled sides ps rs
     → has_twice ps ≡ false → AreInOrder rs
@@ -245,7 +249,7 @@ tiled_copy h w (p ∷ ps) rs s i (xs, ys, is, tiles, rest) may =
     let store = entries_store h p 0 n s in
     let heap = entries_keep h p 0 n i in
     let copied : with_runs h rs ≡ with_runs m ys = ap (with_runs h) is ∙ runs_both h xs ys
-        ∙ ap (λ g. with_runs g ys) (tiles_copy h p 0 n xs tiles) in (
+    ∙ ap (λ g. with_runs g ys) (tiles_copy h p 0 n xs tiles) in (
       m,
       count_by is_uncopied (of_page h.sides p),
       step_is h m w p _ (may 0 p refl) (accepted h m p n _ (may 0 p refl).tests refl refl refl),
@@ -257,7 +261,6 @@ tiled_copy h w (p ∷ ps) rs s i (xs, ys, is, tiles, rest) may =
     )
 
 -- ---- loops
-
 
 -- the last target gets one run more
 pub last_runs : (ts : List Target) (i : ℕ) (d u : Target) (r : PageRun) → length ts ≡ i + 1

@@ -6,7 +6,7 @@ use Rattle.std.proofs.Math.ListN.{length-set}
 use Rattle.std.proofs.lemmas.List.{set-set, set-get_or}
 use Rattle.std.proofs.lemmas.Option.{same_Some}
 use Rattle.model.proofs.Lists.{get_set_same, get_set_other, get_within}
-use Rattle.part_scans.proofs.Changed.{set_two}
+use Rattle.page.proofs.Changes.{set_two}
 
 -- a list with another element at a place, if there is a place
 abbrev pub set_in : {X : Type 0} → List X → Option ℕ → X → List X

@@ -1,5 +1,4 @@
-use Rattle.std.proofs.Common.{arith, refl, subst}
-use Rattle.page.specs.Owned.{SwappedParts}
+use Rattle.std.proofs.Common.{arith, refl}
 use Rattle.page.proofs.Swapping.{parts_next, parts_last, same_rest, short_part}
 use Rattle.page.proofs.owned.swap_parts.Goals as goal
 

@@ -1,7 +1,7 @@
 use Rattle.std.proofs.Common.{◌∙◌, ap, subst, sym}
 use Rattle.model.specs.Holding.{IsHeap}
 use Rattle.page.specs.Filling.{runs_of}
-use Rattle.heap.specs.Filling.{AreInOrder, AreRunsTo, AreSmall, with_runs}
+use Rattle.heap.specs.Filling.{AreRunsTo, AreSmall, with_runs}
 use Rattle.heap.specs.Views.{heap_of}
 use Rattle.heap.proofs.Filled.{all_have_entries, all_small, filled_heap, runs_done}
 use Rattle.heap.proofs.heap.Heap.raw_fill_by.Goals as goal

@@ -1,5 +1,4 @@
-use Rattle.std.proofs.Common.{◌≡◌, ℕ, List, ap, length, map, subst, sym, ◌∙◌}
-use Rattle.part_scans.specs.Scenes.{SceneState}
+use Rattle.std.proofs.Common.{ℕ, List, ap, length, map, subst, ◌∙◌}
 use Rattle.part_scans.specs.Scans.{all_sent}
 use Rattle.heap.specs.Owning.{AllScanned}
 use Rattle.heap.proofs.Flat.{flat_parts, frame_slot, words_in}

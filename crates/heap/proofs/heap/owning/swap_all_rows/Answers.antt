@@ -1,8 +1,4 @@
 use Rattle.std.proofs.Common.{arith, refl}
-use Rattle.heap.proofs.Flat.{placed_rising}
-use Rattle.heap.proofs.Lent.{back_then}
-use Rattle.heap.proofs.Shapes.{long_sized}
-use Rattle.heap.proofs.Sizing.{matched_alike}
 use Rattle.page.proofs.Swapping.{same_rest, short_part}
 use Rattle.heap.proofs.SwappedRows.{part_rows_next, part_rows_last}
 use Rattle.heap.proofs.heap.owning.swap_all_rows.Goals as goal
