@@ -9,6 +9,9 @@ use crate::managed::ManagedHeap;
 use relocate::copy_pages_by;
 use std::thread::Threads;
 
+/// With fewer uncopied objects, threads aren't worth it.
+const FEW: u64 = 1 << 11;
+
 /// Copies the objects of protected pages ahead, before these are emptied one after another.
 pub(crate) trait Copier {
     // Holds if copies may be made: threads may share what they need.
@@ -29,7 +32,7 @@ impl Copier for Alone {
     fn copy(&self, _heap: &mut ManagedHeap, _worker: u32, _pages: &[u32]) {}
 }
 
-/// Copies on a number of threads; with fewer than two, it copies nothing.
+/// Copies on a number of threads; with fewer than two, or if few objects are uncopied, it copies nothing.
 #[derive(Drop)]
 pub(crate) struct OnThreads<'a, R> {
     pub rt: &'a R,
@@ -40,7 +43,7 @@ impl<'a, R: Threads + Sync> Copier for OnThreads<'a, R> {
     ghost may_copy = { λ _. IsSync R.row };
 
     fn copy(&self, heap: &mut ManagedHeap, worker: u32, pages: &[u32]) {
-        if self.threads > 1 {
+        if self.threads > 1 && heap.heap().sides().uncopied() >= FEW {
             heap.copy_ahead(self.rt, worker, pages, self.threads);
         }
     }

@@ -1,6 +1,6 @@
 //! Emptying pages of a managed heap by one call, by one thread and on several.
 
-use crate::heaps::{Moving, fill_and_close, new_managed};
+use crate::heaps::{Moving, fill_and_close, fill_large, new_large, new_managed};
 use crate::same::same;
 use heap::Refusal;
 use managed::ManagedHeap;
@@ -13,7 +13,7 @@ use verify::Verdict;
 
 /// A heap whose pages are emptied.
 trait Emptying: Moving {
-    /// Empties the pages of eight objects.
+    /// Empties the pages 1 to 4.
     fn empty(&mut self, alloc: Global) -> Result<Result<(), Refusal>, AllocError>;
 }
 
@@ -48,15 +48,16 @@ fn pages_are_emptied(rt: HostRuntime) -> Result<(), Fail> {
     empties(&rt, rt.alloc(), &mut heap)
 }
 
-/// A heap is emptied by this thread, and another on several: both are the same then.
+/// A heap of 2,400 objects is emptied by this thread, and another on several: both are the same then.
 fn empties_as<R: Abort + Threads + Sync>(
     rt: &R,
     alloc: Global,
     one: &mut ManagedHeap,
     other: &mut ManagedHeap,
 ) -> Result<(), Fail> {
-    empties(rt, alloc, one)?;
-    fill_and_close(other)??;
+    fill_large(one)??;
+    fill_large(other)??;
+    Emptying::empty(one, alloc)??;
     let pages = Vec::from_slice(alloc, &[3, 1, 4, 2])?;
     other.empty_by(rt, 0, pages, 4)?;
     let (left, right) = (one.text(alloc)?, other.text(alloc)?);
@@ -71,13 +72,13 @@ fn empties_on_threads<R: Abort + Threads + Sync>(
     alloc: Global,
     one: &mut ManagedHeap,
 ) -> Result<(), Fail> {
-    let mut other = new_managed(alloc)?;
+    let mut other = new_large(alloc)?;
     empties_as(rt, alloc, one, &mut other)
 }
 
 #[test]
 fn pages_are_emptied_on_threads(rt: HostRuntime) -> Result<(), Fail> {
-    let mut one = new_managed(rt.alloc())?;
+    let mut one = new_large(rt.alloc())?;
     empties_on_threads(&rt, rt.alloc(), &mut one)
 }
 

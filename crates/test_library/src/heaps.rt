@@ -109,24 +109,29 @@ impl Moving for ManagedHeap {
     }
 }
 
-/// Six frames of 16 words, twelve pages, one thread with two registers, one worker and no globals. An
+/// Six frames of a number of words, twelve pages, one thread with two registers, one worker and no globals. An
 /// object has one reference and one datum.
-fn config(alloc: Global) -> Result<Config, AllocError> {
+fn config(alloc: Global, words: u32) -> Result<Config, AllocError> {
     let layouts = vec![in alloc; Layout { refs: 1, nums: 1 }]?;
-    let mut config = Config::new(16, 6, Layouts::new(layouts));
+    let mut config = Config::new(words, 6, Layouts::new(layouts));
     config.registers = 2;
     config.globals = 0;
     Ok(config)
 }
 
-/// Returns a heap of that configuration.
+/// Returns a heap of that configuration, with pages of 16 words.
 pub fn new_heap(alloc: Global) -> Result<Heap, NewFault> {
-    Heap::new(alloc, config(alloc)?)
+    Heap::new(alloc, config(alloc, 16)?)
 }
 
 /// Returns the same as a managed heap.
 pub fn new_managed(alloc: Global) -> Result<ManagedHeap, NewFault> {
-    ManagedHeap::new(alloc, config(alloc)?)
+    ManagedHeap::new(alloc, config(alloc, 16)?)
+}
+
+/// Returns the same with pages of 4,096 words.
+pub fn new_large(alloc: Global) -> Result<ManagedHeap, NewFault> {
+    ManagedHeap::new(alloc, config(alloc, 4_096)?)
 }
 
 /// A new object becomes the head of the list in register 0.
@@ -145,12 +150,13 @@ fn push(heap: &mut impl Moving) -> Result<(), Refusal> {
     Ok(())
 }
 
-/// A list of eight objects, two on each of the pages 1 to 4.
-fn fill(heap: &mut impl Moving) -> Result<(), Refusal> {
+/// A list of objects, this many on each of the pages 1 to 4, which have a number of words.
+fn fill(heap: &mut impl Moving, words: u32, objects: u32) -> Result<(), Refusal> {
     for _ in 0..4 {
-        heap.act(&Step::Take(16))?;
-        push(heap)?;
-        push(heap)?;
+        heap.act(&Step::Take(words))?;
+        for _ in 0..objects {
+            push(heap)?;
+        }
         heap.act(&Step::GiveBack)?;
     }
     heap.act(&Step::ClearReg(1))?;
@@ -168,10 +174,20 @@ fn drain(heap: &mut impl Moving, most: u32) -> Result<(), Refusal> {
 }
 
 /// That list, on pages that a mark has closed.
-pub fn fill_and_close(heap: &mut impl Moving) -> Result<Reply, Refusal> {
-    fill(heap)?;
+fn fill_to_close(heap: &mut impl Moving, words: u32, objects: u32) -> Result<Reply, Refusal> {
+    fill(heap, words, objects)?;
     heap.work(&Step::StartMark)?;
     heap.act(&Step::Cross)?;
-    drain(heap, 100)?;
+    drain(heap, 100_000)?;
     Ok(heap.work(&Step::EndMark))
+}
+
+/// The list, with two objects on each page of 16 words.
+pub fn fill_and_close(heap: &mut impl Moving) -> Result<Reply, Refusal> {
+    fill_to_close(heap, 16, 2)
+}
+
+/// The list, with 600 objects on each page of 4,096 words.
+pub fn fill_large(heap: &mut impl Moving) -> Result<Reply, Refusal> {
+    fill_to_close(heap, 4_096, 600)
 }
