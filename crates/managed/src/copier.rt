@@ -50,8 +50,8 @@ impl<'a, R: Threads + Sync> Copier for OnThreads<'a, R> {
 }
 
 impl ManagedHeap {
-    /// Copies the objects of From pages, each named once, on threads: by a step `CopyPage` for each page in turn. It does
-    /// nothing if one would be rejected, or if out of memory.
+    /// Copies the objects of From pages, each named once, on threads: by a step `CopyPage` for each page in turn. It
+    /// does nothing if one would be rejected, or if out of memory.
     fn copy_ahead<R: Threads + Sync>(&mut self, rt: &R, worker: u32, pages: &[u32], threads: u32)
         requires { has_twice pages.now ≡ false }
         ensures { CopiesAhead worker self.old self.new }

@@ -65,8 +65,8 @@ fn empties_as<R: Abort + Threads + Sync>(
     Ok(())
 }
 
-/// The same with a second heap, which is made while the first is another function's: each `?` here would drop that field
-/// by field, for minutes of proof.
+/// The same with a second heap, which is made while the first is another function's: each `?` here would drop that
+/// field by field, for minutes of proof.
 fn empties_on_threads<R: Abort + Threads + Sync>(
     rt: &R,
     alloc: Global,

@@ -122,8 +122,9 @@ impl Store {
     }
 
     /// Copies the objects of runs of forwarding tables to their places on targets: has the effect of `copy_entries` for
-    /// each run of each target in turn. Threads do so, each for some targets, if the targets' numbers rise, no target is
-    /// a From page, and all runs are of From pages; else this thread does. It takes no memory. The targets' runs stay.
+    /// each run of each target in turn. Threads do so, each for some targets, if the targets' numbers rise, no target
+    /// is a From page, and all runs are of From pages; else this thread does. It takes no memory. The targets' runs
+    /// stay.
     pub fn fill_by<R: Threads + Sync>(
         &mut self,
         rt: &R,
