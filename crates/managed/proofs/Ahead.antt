@@ -112,7 +112,7 @@ pub ahead : StepsHold → (w : ℕ) (h : HeapState) (ps : List ℕ) (done : Bool
 ahead law w h ps true g s i copied stays = pages_ahead law w h ps g s i (copied refl)
 ahead law w h ps false g s i copied stays = subst (CopiesAhead w h) (sym (stays refl)) (nothing_ahead w h)
 
--- ---- emptying behind them
+-- ---- emptying after them
 
 same_frames : (w : ℕ) (h g : HeapState) → CopiesAhead w h g → SameFrames h g
 same_frames w h g k = record { pages = k.pages; owners = k.owners; count = k.count }

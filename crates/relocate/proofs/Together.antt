@@ -1,11 +1,11 @@
 -- Runs of many pages, which are copied at once, are copied page by page.
 use Rattle.std.proofs.Common.{◌≡◌, ◌≢◌, ℕ, zero, suc, ◌+◌, ◌≤◌, ◌<◌, ◌||◌, Bool, true, false, List, [], ◌∷◌, ◌++◌}
-use Rattle.std.proofs.Common.{length, take, get_or, set, Option, Some, None, nat_eq, nat_le, nat_lt, count_by, cond, not}
+use Rattle.std.proofs.Common.{length, take, get_or, set, Option, Some, None, nat_eq, nat_le, nat_lt, count_by, cond}
 use Rattle.std.proofs.Common.{◌*◌, ◌/◌, ◌%◌, refl, sym, ◌∙◌, ap, subst, arith}
 use Rattle.std.specs.List.{slice_get, list_any}
 use Rattle.std.specs.Prelude.{Result, Ok, Err, if◌then◌else◌}
 use Rattle.std.proofs.lemmas.Bool.{eqb-false, eqb-true}
-use Rattle.std.proofs.lemmas.List.{append-nil, take_all, take_more}
+use Rattle.std.proofs.lemmas.List.{append-nil, append_assoc, take_all, take_more}
 use Rattle.std.proofs.lemmas.Bool.Decides.{nat_tests}
 use Rattle.std.proofs.lemmas.Option.{same_Some, slice_get-get_or, slice_get_within}
 use Rattle.model.specs.declared.records.Forwarding.{Forwarding}
@@ -43,9 +43,10 @@ use Rattle.relocate.proofs.Runs.{entries_on, length_entries}
 
 -- ---- lists
 
-joined : {X : Type 0} (xs ys zs : List X) → (xs ++ ys) ++ zs ≡ xs ++ (ys ++ zs)
-joined [] ys zs = refl
-joined (x ∷ xs) ys zs = ap (λ us. x ∷ us) (joined xs ys zs)
+-- neither test holds, if not one does
+neither : (a b : Bool) → (a || b) ≡ false → (a ≡ false) × (b ≡ false)
+neither true b z = absurd (cc)
+neither false b z = (refl, z)
 
 each_both : {X : Type 0} (P : X → Type 0) (xs ys : List X) → Each xs P → Each ys P → Each (xs ++ ys) P
 each_both P [] ys h k i x at = k i x at
@@ -70,17 +71,13 @@ pub each_all : (P : ℕ → Type 0) (ns : List ℕ) (k : ℕ) → ((i n : ℕ) �
     → length ns ≤ k → Each ns P
 each_all P ns k h l i n at = h i n (omega (arith, l, slice_get_within ns i n at)) at
 
--- an element is read with any other one in case that there is none
-pub same_element : {X : Type 0} (xs : List X) (i : ℕ) (d e : X) → i < length xs → get_or xs i d ≡ get_or xs i e
-same_element xs i d e l = same_Some _ _ (sym (slice_get-get_or xs i d l) ∙ slice_get-get_or xs i e l)
-
 one_run : {X : Type 0} (P : X → Type 0) (x : X) → P x → Each (x ∷ []) P
 one_run P x h zero y at = subst P (same_Some _ _ at) h
 one_run P x h (suc i) y at = absurd (cc)
 
 -- ---- runs that follow each other
 
--- one more behind them
+-- one more after them
 tiles_more : (p e k : ℕ) (xs : List PageRun) (r : PageRun) → Tiles p e k xs → r.page ≡ p → r.first ≡ e + k
     → Tiles p e (k + r.count) (xs ++ r ∷ [])
 tiles_more p e k [] r t a b =
@@ -121,7 +118,7 @@ tiled_more : (sides : List (List Forwarding)) (ps : List ℕ) (p : ℕ) (rs xs :
     → Tiles p 0 (length (of_page sides p)) xs → AreTiled sides (ps ++ p ∷ []) (rs ++ xs)
 tiled_more sides [] p rs xs t k = (xs, [], ap (λ us. us ++ xs) t ∙ sym (append-nil xs), k, refl)
 tiled_more sides (q ∷ ps) p rs xs (us, vs, is, tiles, rest) k =
-    (us, vs ++ xs, ap (λ ws. ws ++ xs) is ∙ joined us vs xs, tiles, tiled_more sides ps p vs xs rest k)
+    (us, vs ++ xs, ap (λ ws. ws ++ xs) is ∙ append_assoc us vs xs, tiles, tiled_more sides ps p vs xs rest k)
 
 -- runs of other pages, if the page isn't among these
 other_pages : (sides : List (List Forwarding)) (p : ℕ) (ps : List ℕ) (rs : List PageRun) → AreTiled sides ps rs
@@ -134,10 +131,6 @@ other_pages sides p (q ∷ ps) rs (us, vs, is, tiles, rest) none =
     (each_both (λ (r : PageRun). r.page ≢ p) us vs
     (λ i r at e. eqb-false q p here (sym (tiles_within q 0 _ us tiles i r at).0 ∙ e))
     (other_pages sides p ps vs rest later))
-  where
-    neither : (a b : Bool) → (a || b) ≡ false → (a ≡ false) × (b ≡ false)
-    neither true b z = absurd (cc)
-    neither false b z = (refl, z)
 
 -- runs of a page before those of others are in order
 tiles_order : (p e k : ℕ) (xs ys : List PageRun) → Tiles p e k xs → Each ys (λ (r : PageRun). r.page ≢ p)
@@ -157,10 +150,6 @@ tiled_order sides (p ∷ ps) rs (xs, ys, is, tiles, rest) once =
     let (here, later) = neither (list_any (λ m. nat_eq m p) ps) (has_twice ps) once in
     subst AreInOrder (sym is)
     (tiles_order p 0 _ xs ys tiles (other_pages sides p ps ys rest here) (tiled_order sides ps ys rest later))
-  where
-    neither : (a b : Bool) → (a || b) ≡ false → (a ≡ false) × (b ≡ false)
-    neither true b z = absurd (cc)
-    neither false b z = (refl, z)
 
 -- forwarding tables of the same lengths
 same_tiled : (sides others : List (List Forwarding)) (ps : List ℕ) (rs : List PageRun)
@@ -272,7 +261,7 @@ last_runs (t ∷ []) (suc i) d u r l e = absurd (omega (arith, l))
 last_runs (t ∷ v ∷ ts) zero d u r l e = absurd (omega (arith, l))
 last_runs (t ∷ v ∷ ts) (suc i) d u r l e =
     ap (λ rs. t.runs.items ++ rs) (last_runs (v ∷ ts) i d u r (omega (arith, l)) e)
-    ∙ sym (joined t.runs.items (runs_of (v ∷ ts)) (r ∷ []))
+    ∙ sym (append_assoc t.runs.items (runs_of (v ∷ ts)) (r ∷ []))
 
 pub last_to : (h : HeapState) (ts : List Target) (i : ℕ) (d u : Target) (r : PageRun) → i < length ts
     → AreRunsTo h ts → u.page ≡ (get_or ts i d).page → u.runs.items ≡ (get_or ts i d).runs.items ++ r ∷ []
@@ -290,7 +279,7 @@ pub new_runs : (ts : List Target) (u : Target) (r : PageRun) → u.runs.items �
     → runs_of (ts ++ u ∷ []) ≡ runs_of ts ++ r ∷ []
 new_runs [] u r e = append-nil u.runs.items ∙ e
 new_runs (t ∷ ts) u r e = ap (λ rs. t.runs.items ++ rs) (new_runs ts u r e)
-    ∙ sym (joined t.runs.items (runs_of ts) (r ∷ []))
+    ∙ sym (append_assoc t.runs.items (runs_of ts) (r ∷ []))
 
 pub new_to : (h : HeapState) (ts : List Target) (u : Target) (r : PageRun) → AreRunsTo h ts → u.runs.items ≡ r ∷ []
     → IsRunTo h u.page r → AreRunsTo h (ts ++ u ∷ [])
@@ -315,7 +304,7 @@ pub adds_more : (p k n : ℕ) (ts us vs : List Target) (r : PageRun) → AddsTo 
     → runs_of vs ≡ runs_of us ++ r ∷ [] → r.page ≡ p → r.first ≡ k → n ≡ k + r.count → AddsTo p n ts vs
 adds_more p k n ts us vs r (xs, is, tiles) e page first sum = (
   xs ++ r ∷ [],
-  e ∙ ap (λ rs. rs ++ r ∷ []) is ∙ joined (runs_of ts) xs (r ∷ []),
+  e ∙ ap (λ rs. rs ++ r ∷ []) is ∙ append_assoc (runs_of ts) xs (r ∷ []),
   subst (λ m. Tiles p 0 m (xs ++ r ∷ [])) (sym sum) (tiles_more p 0 k xs r tiles page (omega (arith, first))),
 )
 

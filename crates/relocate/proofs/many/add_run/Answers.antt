@@ -1,8 +1,9 @@
-use Rattle.std.proofs.Common.{◌+◌, ◌-◌, ◌++◌, ◌∙◌, [], ◌∷◌, ap, arith, sym, subst}
+use Rattle.std.proofs.Common.{◌-◌, ◌++◌, ◌∙◌, [], ◌∷◌, ap, arith, sym, subst}
+use Rattle.std.proofs.lemmas.List.{get_or_default}
 use Rattle.heap.specs.Filling.{AreRunsTo, IsRunTo}
 use Rattle.page.specs.declared.targets.Target.{Target}
 use Rattle.page.specs.Filling.{runs_of}
-use Rattle.relocate.proofs.Together.{last_runs, last_to, new_runs, new_to, same_element}
+use Rattle.relocate.proofs.Together.{last_runs, last_to, new_runs, new_to}
 use Rattle.relocate.proofs.many.add_run.Goals as goal
 
 pub returns-then-index-page-clause-runs : goal.returns-then-index-page-clause-runs
@@ -19,7 +20,7 @@ returns-then-index-page-clause-to c = λ h to here.
     (c.in_ok-push.ensures.items ∙ ap (λ (t : Target). t.runs.items ++ c.args.run ∷ []) c.index_mut-last.ensures.value)
     (subst (λ n. IsRunTo h n c.args.run) (sym c.if-index-page.true
     ∙ ap (λ (t : Target). t.page) (c.index.ensures
-    ∙ same_element c.args.targets.now.items (c.len-count.result - 1) c.index.result.now c.index_mut-last.result.now
+    ∙ get_or_default c.args.targets.now.items (c.len-count.result - 1) c.index.result.now c.index_mut-last.result.now
     (omega (arith, c.len-count.ensures, c.if-count-gt0.true))
     ∙ sym c.index_mut-last.ensures.value)) here)
 
