@@ -1,10 +1,10 @@
 -- Runs of many pages: the words are written at once, and then the copies are noted.
 use Rattle.std.proofs.Common.{◌≡◌, ◌≢◌, ℕ, zero, suc, ◌+◌, ◌-◌, ◌≤◌, ◌<◌, ◌==◌, Bool, true, false, cond}
-use Rattle.std.proofs.Common.{List, [], ◌∷◌, ◌++◌, length, map, drop, get_or, set, Option, Some, None, nat_eq}
+use Rattle.std.proofs.Common.{List, [], ◌∷◌, ◌++◌, length, map, drop, get_or, Option, Some, None, nat_eq}
 use Rattle.std.proofs.Common.{refl, sym, ◌∙◌, ap, subst, arith}
 use Rattle.std.specs.List.{slice_get}
 use Rattle.std.proofs.lemmas.Bool.{eqb-true, eqb-false}
-use Rattle.std.proofs.lemmas.List.{drop_more, drop_all}
+use Rattle.std.proofs.lemmas.List.{drop_more, drop_all, get_or-set_other}
 use Rattle.std.proofs.lemmas.Option.{same_Some}
 use Rattle.layout.specs.declared.shape.Layout.{Layout}
 use Rattle.model.specs.Bits.{of_page}
@@ -30,21 +30,13 @@ use Rattle.heap.proofs.Runs.{behind_stay, entries_keep, page_rises, runs}
 
 -- notes of another page's copies
 
-element_stays : {X : Type 0} (xs : List (List X)) (i j : ℕ) (v : List X) → i ≢ j
-    → get_or (set xs j v) i [] ≡ get_or xs i []
-element_stays [] i j v d = refl
-element_stays (x ∷ xs) zero zero v d = absurd (d refl)
-element_stays (x ∷ xs) zero (suc j) v d = refl
-element_stays (x ∷ xs) (suc i) zero v d = refl
-element_stays (x ∷ xs) (suc i) (suc j) v d = element_stays xs i j v (λ e. d (ap suc e))
-
 changed_elsewhere : {X : Type 0} (xs : List (List X)) (i j : ℕ) (f : List X → List X) → i ≢ j
     → get_or (change_at xs j f) i [] ≡ get_or xs i []
 changed_elsewhere {X = X} xs i j f d = by_found (slice_get xs j)
   where
     by_found : (o : Option (List X)) → get_or (change_found xs j o f) i [] ≡ get_or xs i []
     by_found None = refl
-    by_found (Some x) = element_stays xs i j (f x) d
+    by_found (Some x) = get_or-set_other xs j i (f x) [] d
 
 other_side : (sides : List (List Forwarding)) (m n e : ℕ) → m ≢ n
     → of_page (noted_sides n (slice_get (of_page sides n) e) sides) m ≡ of_page sides m
