@@ -11,3 +11,4 @@ pub mod Bases
 pub mod Drafted
 pub mod Planned
 pub mod Totals
+pub mod Flagged

@@ -1,8 +1,9 @@
 -- Entries that are noted as copied by their numbers, and the entry after another.
-use Rattle.std.proofs.Common.{◌≡◌, ℕ, ◌+◌, ◌-◌, ◌<◌, ◌≤◌, Bool, true, false, cond, List, length, map, set}
-use Rattle.std.proofs.Common.{get_or, Option, Some, None, sym, ◌∙◌, ap, arith, length-set}
+use Rattle.std.proofs.Common.{◌≡◌, ℕ, zero, suc, ◌+◌, ◌-◌, ◌<◌, ◌≤◌, Bool, true, false, cond, List, ◌⊎◌, inl, inr}
+use Rattle.std.proofs.Common.{length, map, set, get_or, Option, Some, None, refl, sym, ◌∙◌, ap, arith, length-set}
 use Rattle.std.specs.List.{slice_get}
-use Rattle.std.proofs.lemmas.List.Sums.{sum_by-set}
+use Rattle.std.proofs.lemmas.Bool.{cases_order}
+use Rattle.std.proofs.lemmas.List.{get_or_default, set-get_or, set_past}
 use Rattle.std.proofs.lemmas.Option.{same_Some, slice_get_within}
 use Rattle.model.specs.declared.limits.TheConstants.{MOST_WORDS}
 use Rattle.model.specs.declared.records.Forwarding.{Forwarding}
@@ -11,10 +12,10 @@ use Rattle.model.specs.Plans.{offsets_from}
 use Rattle.markbits.specs.Ranks.{rank_of}
 use Rattle.markbits.specs.Words.{IsFirstFrom, IsNextPlace}
 use Rattle.markbits.proofs.Ranks.{rank_next, rank_first, rank_all}
-use Rattle.forward.specs.Counts.{uncopied_in}
-use Rattle.forward.specs.Noting.{offset_of, place_of, place_to_copy, noted_side}
+use Rattle.forward.specs.Flags.{put_run}
+use Rattle.forward.specs.Noting.{offset_of, place_of, place_to_copy, noted_side, noted_run}
 use Rattle.forward.specs.Ranked.{numbered_entry, entries_of, AreEntries, IsKept}
-use Rattle.forward.proofs.Edited.{noted, left_of, past_all}
+use Rattle.forward.proofs.Edited.{noted, past_all}
 use Rattle.forward.proofs.Ranked.{entry_read, entries_many, entries_few, bit_numbered, ranked_offset}
 
 -- a bit as a number
@@ -50,7 +51,7 @@ module _ (live : List Bool) (places : List ℕ) (copied : List Bool) where
       told_place to at = ap Some at ∙ ap (λ b. cond b None (Some (get_or places i 0))) flag
           ∙ sym (ap place_to_copy (entry_read live places copied i l))
 
-      pub noted_number : entries_of live places (set copied i true) ≡ noted_side (slice_get all i) all
+      noted_number : entries_of live places (set copied i true) ≡ noted_side (slice_get all i) all
       noted_number =
           let (k, bit) = bit_numbered 0 live i (omega (arith, l, is.many)) in
           let at : k ≡ get_or (offsets_from 0 live) i 0 = omega (arith, bit.offset) in
@@ -59,14 +60,32 @@ module _ (live : List Bool) (places : List ℕ) (copied : List Bool) where
           ∙ ap (λ b. cond b all (map (set_copied_of (get_or (offsets_from 0 live) i 0)) all)) flag
           ∙ sym (ap (λ o. noted_side o all) (entry_read live places copied i l))
 
-      still : AreEntries live places (set copied i true)
-      still = record { short = is.short; many = is.many; flags = length-set copied i true ∙ is.flags }
+  -- one that may be either, or not there
+  module _ (is : AreEntries live places copied) (i : ℕ) where
+    noted_one : entries_of live places (set copied i true) ≡ noted_side (slice_get all i) all
+    noted_one = by_place (cases_order i (length places))
+      where
+        by_flag : (l : i < length places) (b : Bool) → b ≡ get_or copied i false
+            → entries_of live places (set copied i true) ≡ noted_side (slice_get all i) all
+        by_flag l false flag = noted_number is i l flag
+        by_flag l true flag =
+            ap (entries_of live places)
+            (ap (set copied i) (flag ∙ get_or_default copied i false true (omega (arith, l, is.flags))) ∙ set-get_or copied i true)
+            ∙ not_noted i l flag
 
-      pub one_fewer : uncopied_in all ≡ uncopied_in (entries_of live places (set copied i true)) + 1
-      one_fewer =
-          let before : as_one (get_or copied i false) ≡ 0 = ap as_one (sym flag) in
-          let more = sum_by-set as_one copied i true false (omega (arith, l, is.flags)) in
-          omega (arith, left_of live places copied is, left_of live places (set copied i true) still, more, before)
+        past : length places ≤ i → entries_of live places (set copied i true) ≡ noted_side (slice_get all i) all
+        past l =
+            ap (entries_of live places) (set_past copied i true (omega (arith, l, is.flags)))
+            ∙ ap (λ o. noted_side o all) (none_there i l)
+
+        by_place : (i ≡ length places) ⊎ ((i < length places) ⊎ (length places < i))
+            → entries_of live places (set copied i true) ≡ noted_side (slice_get all i) all
+        by_place (inl e) = past (omega (arith, e))
+        by_place (inr (inl l)) = by_flag l (get_or copied i false) refl
+        by_place (inr (inr l)) = past (omega (arith, l))
+
+    still_entries : AreEntries live places (set copied i true)
+    still_entries = record { short = is.short; many = is.many; flags = length-set copied i true ∙ is.flags }
 
   -- the entry after another
   module _ (is : AreEntries live places copied) (i before : ℕ) (low : 0 < i)
@@ -122,3 +141,20 @@ module _ (live : List Bool) (places : List ℕ) (copied : List Bool) where
 
     pub entry_short : (i : ℕ) (f : Forwarding) → slice_get all i ≡ Some f → i < MOST_WORDS
     entry_short i f at = omega (arith, slice_get_within all i f at, entries_few live places copied is)
+
+-- several entries are noted as copied
+pub noted_all : (live : List Bool) (places : List ℕ) (copied : List Bool) (i k : ℕ) → AreEntries live places copied
+    → entries_of live places (put_run i k copied) ≡ noted_run i k (entries_of live places copied)
+noted_all live places copied i zero is = refl
+noted_all live places copied i (suc k) is =
+    noted_all live places (set copied i true) (i + 1) k (still_entries live places copied is i)
+    ∙ ap (noted_run (i + 1) k) (noted_one live places copied is i)
+
+run_length : (i k : ℕ) (copied : List Bool) → length (put_run i k copied) ≡ length copied
+run_length i zero copied = refl
+run_length i (suc k) copied = run_length (i + 1) k (set copied i true) ∙ length-set copied i true
+
+pub run_entries : (live : List Bool) (places : List ℕ) (copied : List Bool) (i k : ℕ) → AreEntries live places copied
+    → AreEntries live places (put_run i k copied)
+run_entries live places copied i k is =
+    record { short = is.short; many = is.many; flags = run_length i k copied ∙ is.flags }

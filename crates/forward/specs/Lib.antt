@@ -9,3 +9,4 @@ pub mod Runs
 pub mod Bases
 pub mod Objects
 pub mod Drafts
+pub mod Flags

@@ -2,6 +2,7 @@
 #![tactic(auto)]
 
 mod draft;
+mod flags;
 mod objects;
 mod places;
 mod plan;

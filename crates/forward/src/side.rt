@@ -1,17 +1,19 @@
 //! The forwarding table of a page.
 
-ghost use Rattle.std.specs.Prelude.{◌≡◌, ◌+◌, ◌-◌, ◌<◌, ◌≤◌, ◌==◌, length, map, slice_get, [], Some, IfOk, IfSome};
+ghost use Rattle.std.specs.Prelude.{◌≡◌, ◌+◌, ◌-◌, ◌<◌, ◌≤◌, ◌==◌, ◌^◌, length, map, slice_get, [], Some, IfOk, IfSome};
 ghost use Rattle.std.specs.Prelude.{not, count_by, is_some, replicate, false};
 ghost use Rattle.std.specs.List.{list_any};
 ghost use Rattle.model.specs.declared.limits.TheConstants.{MOST_WORDS};
 ghost use Rattle.model.specs.Marks.{entry_of};
 ghost use Rattle.model.specs.Cycles.{is_uncopied};
+ghost use Rattle.model.specs.Holding.{AreRising};
 ghost use Rattle.model.specs.Moves.{set_copied_of};
 ghost use Rattle.forward.specs.Counts.{uncopied_in};
-ghost use Rattle.forward.specs.Noting.{offset_of, place_of, place_to_copy, noted_side};
+ghost use Rattle.forward.specs.Noting.{offset_of, place_of, place_to_copy, noted_run};
 ghost use Rattle.forward.specs.Ranked.{entries_of, IsLiveOf};
 ghost use Rattle.forward.specs.Searching.{found_at};
 
+use crate::flags::Flags;
 use crate::places::Places;
 use markbits::{RankedRow, Row};
 use model::Forwarding;
@@ -27,8 +29,8 @@ pub struct Side {
     live: RankedRow,
     /// The objects' new addresses, in the order of their offsets.
     places: Places,
-    /// Bit `i` is set if entry `i` is copied.
-    copied: Row,
+    /// Flag `i` is set if entry `i` is copied.
+    copied: Flags,
     /// The offset that was kept last: mostly that entry or the next one is looked up again.
     last: u32,
     /// The number of that offset's entry; past all entries if none was kept.
@@ -57,7 +59,7 @@ impl Side {
         Side {
             live: RankedRow::empty(alloc),
             places: Places::empty(alloc),
-            copied: Row::empty(alloc),
+            copied: Flags::empty(alloc),
             last: 0,
             number: u32::MAX,
         }
@@ -89,7 +91,7 @@ impl Side {
         Side {
             live,
             places,
-            copied,
+            copied: Flags::of(copied),
             last: 0,
             number: u32::MAX,
         }
@@ -232,19 +234,17 @@ impl Side {
     {
         if self.live.test(offset as usize) {
             let index = self.live.rank(offset as usize);
-            self.copied.put(index, true);
+            self.copied.set(index);
             self.last = offset;
             self.number = index as u32;
         }
     }
 
-    /// Notes that the object of the entry of a number, from 0, is copied, if there is such an entry and it is
-    /// uncopied. Returns its new address if so, else `None`. The entry's offset isn't looked up.
+    /// Returns the new address in the entry of a number, from 0, or `None` if there is no such entry, or it is copied.
+    /// The entry's offset isn't looked up.
     #[inline(always)]
-    pub fn note(&mut self, number: usize) -> Option<Addr>
-        ensures place { result ≡ place_to_copy (slice_get self.old number) }
-        ensures side { self.new ≡ noted_side (slice_get self.old number) self.old }
-        ensures left { IfSome result (λ _. uncopied_in self.old ≡ uncopied_in self.new + 1) }
+    pub fn place_to_copy(&self, number: usize) -> Option<Addr>
+        ensures { result ≡ place_to_copy (slice_get self.now number) }
     {
         if number >= self.places.len() {
             return None;
@@ -252,9 +252,17 @@ impl Side {
         if self.copied.test(number) {
             return None;
         }
-        let to = self.places.get(number);
-        self.copied.put(number, true);
-        Some(to)
+        Some(self.places.get(number))
+    }
+
+    /// Notes that the objects of `count` entries from a number, from 0, on are copied, of those that exist. If no later
+    /// entry is copied, and no uncopied one is before them, this costs the same however many they are.
+    pub fn note_run(&mut self, first: u32, count: u32)
+        requires { first + count < 2 ^ 32 }
+        ensures side { self.new ≡ noted_run first count self.old }
+        ensures rising { AreRising MOST_WORDS 0 self.old }
+    {
+        self.copied.set_run(first, count);
     }
 
     /// Remembers the offset of the entry of a number, from 0: then it is found without a search, and the next one

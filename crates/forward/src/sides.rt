@@ -1,6 +1,6 @@
 //! The forwarding tables of all pages.
 
-ghost use Rattle.std.specs.Prelude.{◌≡◌, ◌<◌, ◌≤◌, length, replicate, map, slice_get, slice_set, [], IfOk, IfSome};
+ghost use Rattle.std.specs.Prelude.{◌≡◌, ◌+◌, ◌<◌, ◌≤◌, ◌^◌, length, replicate, map, slice_get, slice_set, [], IfOk, IfSome};
 ghost use Rattle.std.specs.Prelude.{is_some, not};
 ghost use Rattle.std.specs.Prelude.{unwrap_or};
 ghost use Rattle.std.specs.List.{list_any};
@@ -9,10 +9,11 @@ ghost use Rattle.model.specs.States.{change_at};
 ghost use Rattle.model.specs.Bits.{of_page};
 ghost use Rattle.model.specs.Marks.{entry_of};
 ghost use Rattle.model.specs.Cycles.{is_uncopied};
+ghost use Rattle.model.specs.Holding.{AreRising};
 ghost use Rattle.model.specs.Moves.{set_copied_of};
 ghost use Rattle.model.specs.declared.limits.TheConstants.{MOST_WORDS};
 ghost use Rattle.forward.specs.Counts.{uncopied_in, uncopied_count};
-ghost use Rattle.forward.specs.Noting.{place_of, place_to_copy, noted_sides};
+ghost use Rattle.forward.specs.Noting.{place_of, noted_range};
 ghost use Rattle.forward.specs.Searching.{found_at};
 
 use crate::side::Side;
@@ -129,7 +130,7 @@ impl Sides {
 
     /// Returns the forwarding table of a page, by the page's number from 1, or `None` if it has no record.
     #[inline(always)]
-    fn on(&self, page: u64) -> Option<&Side>
+    pub fn on(&self, page: u64) -> Option<&Side>
         ensures { of_page self.now page ≡ unwrap_or (option_copied result) [] }
     {
         if page == 0 {
@@ -255,24 +256,25 @@ impl Sides {
         }
     }
 
-    /// Notes that the object of entry `number`, from 0, of a page is copied, by the page's number from 1, if there is
-    /// such an entry and it is uncopied. Returns the new address if so, else `None`.
-    #[inline(always)]
-    pub fn note(&mut self, page: u64, number: u32) -> Option<Addr>
-        ensures place { result ≡ place_to_copy (slice_get (of_page self.old page) number) }
-        ensures sides { self.new ≡ noted_sides page (slice_get (of_page self.old page) number) self.old }
+    /// Notes that the objects of `count` entries of a page from number `first` on are copied, of those that exist:
+    /// pages count from 1, entries from 0. The entries' offsets rise.
+    #[tactic(auto, using(crate::proofs::Totals::room_left))]
+    pub fn note_run(&mut self, page: u64, first: u32, count: u32)
+        requires { first + count < 2 ^ 32 }
+        ensures sides { self.new ≡ noted_range page first count self.old }
+        ensures rising { AreRising MOST_WORDS 0 (of_page self.old page) }
     {
         if page == 0 {
-            return None;
+            return;
         }
         let at = (page - 1) as usize;
         if at >= self.sides.len() {
-            return None;
+            return;
         }
         let side = &mut self.sides[at];
-        let to = side.note(number as usize)?;
-        self.left -= 1;
-        Some(to)
+        self.left -= side.uncopied() as usize;
+        side.note_run(first, count);
+        self.left += side.uncopied() as usize;
     }
 
     /// Remembers the offset of entry `number`, from 0, of a page, by the page's number from 1: then it is found

@@ -24,9 +24,9 @@ use Rattle.page.specs.Filling.{AllHaveEntries, all_filled, runs_of}
 use Rattle.page.specs.Filling.{with_runs as stored_runs}
 use Rattle.page.specs.Runs.{source_with, with_run}
 use Rattle.page.proofs.Runs.{words_keep}
-use Rattle.heap.specs.Filling.{AreInOrder, AreRunsTo, AreSmall, IsBehind, IsRunTo, noted_runs, with_runs}
+use Rattle.heap.specs.Filling.{AreInOrder, AreRunsTo, AreSmall, IsAfter, IsRunTo, noted_runs, with_runs}
 use Rattle.heap.specs.Runs.{GoTo, Notes, notes, noted_by, noted_from, with_entries}
-use Rattle.heap.proofs.Runs.{behind_stay, entries_keep, page_rises, runs}
+use Rattle.heap.proofs.Runs.{later_stay, entries_keep, page_rises, runs}
 
 -- notes of another page's copies
 
@@ -72,7 +72,7 @@ noted_before : (w n e k : ℕ) (z : Notes) (side : List Forwarding) → AreRisin
 noted_before w n e zero z side r agree i l = agree i (omega (arith, l))
 noted_before w n e (suc k) z side r agree i l =
     noted_before w n (e + 1) k (noted_by w n (slice_get (of_page z.sides n) e) z) side r
-    (behind_stay z.sides n w side e (slice_get (of_page z.sides n) e) r (sym (agree e (omega arith))) agree)
+    (later_stay z.sides n w side e (slice_get (of_page z.sides n) e) r (sym (agree e (omega arith))) agree)
     i (omega (arith, l))
 
 -- runs with their targets
@@ -180,7 +180,7 @@ module _ (sides : List (List Forwarding)) (ls : List Layout) where
       run_of (w ∷ ys) zero y at = ap Some (ap (λ (v : Aimed). v.1) (same_Some _ _ at))
       run_of (w ∷ ys) (suc i) y at = run_of ys i y at
 
-      by_page : (y : Aimed) (b : Bool) → nat_eq y.1.page x.1.page ≡ b → IsBehind x.1 y.1
+      by_page : (y : Aimed) (b : Bool) → nat_eq y.1.page x.1.page ≡ b → IsAfter x.1 y.1
           → ((i : ℕ) → y.1.first ≤ i
           → slice_get (of_page h.sides y.1.page) i ≡ slice_get (of_page sides y.1.page) i)
           → (i : ℕ) → y.1.first ≤ i → slice_get (of_page z.sides y.1.page) i ≡ slice_get (of_page sides y.1.page) i

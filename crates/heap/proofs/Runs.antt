@@ -26,9 +26,9 @@ use Rattle.pieces.proofs.Cuts.{length_all}
 use Rattle.page.specs.Runs.{known, source_with, with_run}
 use Rattle.page.proofs.Copied.{nothing_over}
 use Rattle.page.proofs.Runs.{unchanged, words_keep, words_twice, words_alike}
-use Rattle.forward.specs.Noting.{place_to_copy, noted_sides}
+use Rattle.forward.specs.Noting.{place_to_copy, noted_sides, noted_range}
 use Rattle.heap.specs.Runs.{with_entry, with_entries, GoTo, Notes, notes, noted_starts, noted_by}
-use Rattle.heap.specs.Runs.{noted_from}
+use Rattle.heap.specs.Runs.{noted_from, started_from}
 use Rattle.heap.proofs.Moving.{copy_keeps}
 
 -- what is noted
@@ -54,13 +54,20 @@ none_started words starts (Some f) e = by_copied f.copied e
     by_copied true z = refl
     by_copied false z = absurd (cc)
 
-pub noted_more : (words n e d k m : ℕ) (z : Notes) → k ≡ suc m → d ≡ e + 1
-    → noted_from words n e k z ≡ noted_from words n d m (noted_by words n (slice_get (of_page z.sides n) e) z)
-noted_more words n e d k m z a b = ap (λ j. noted_from words n e j z) a
-    ∙ ap (λ j. noted_from words n j m (noted_by words n (slice_get (of_page z.sides n) e) z)) (sym b)
+pub started_more : (words e d k m : ℕ) (side : List Forwarding) (starts : List (List Bool)) → k ≡ suc m → d ≡ e + 1
+    → started_from words side e k starts
+    ≡ started_from words side d m (noted_starts words (slice_get side e) starts)
+started_more words e d k m side starts a b = ap (λ j. started_from words side e j starts) a
+    ∙ ap (λ j. started_from words side j m (noted_starts words (slice_get side e) starts)) (sym b)
 
-pub noted_all : (words n e k : ℕ) (z : Notes) → k ≡ 0 → noted_from words n e k z ≡ z
-noted_all words n e k z a = ap (λ j. noted_from words n e j z) a
+pub none_more : (words e k : ℕ) (side : List Forwarding) (starts : List (List Bool)) → k ≡ 0
+    → started_from words side e k starts ≡ starts
+none_more words e k side starts a = ap (λ j. started_from words side e j starts) a
+
+-- none start, where a page has no entries
+pub none_start : (words e k : ℕ) (starts : List (List Bool)) → starts ≡ started_from words [] e k starts
+none_start words e zero starts = refl
+none_start words e (suc k) starts = none_start words (e + 1) k starts
 
 pub entries_none : (h : HeapState) (n e k : ℕ) → k ≡ 0 → h ≡ with_entries h n e k
 entries_none h n e k a = sym (ap (λ j. with_entries h n e j) a)
@@ -82,7 +89,7 @@ entries_keep h n e zero i = i
 entries_keep h n e (suc k) i = entries_keep (with_entry h n (slice_get (of_page h.sides n) e)) n (e + 1) k
     (entry_keeps h n (slice_get (of_page h.sides n) e) i)
 
--- the entries behind the one that is noted stay
+-- the entries after the one that is noted stay
 
 or_false : (b : Bool) → b || false ≡ b
 or_false true = refl
@@ -118,16 +125,16 @@ set_read {X = X} (x ∷ xs) (suc i) f e = by_found (slice_get xs i) (set_read xs
     by_found None k = k
     by_found (Some y) k = k
 
-pub behind_stay : (sides : List (List Forwarding)) (n : ℕ) (w : ℕ) (side : List Forwarding) (e : ℕ) (o : Option Forwarding)
+pub later_stay : (sides : List (List Forwarding)) (n : ℕ) (w : ℕ) (side : List Forwarding) (e : ℕ) (o : Option Forwarding)
     → AreRising w 0 side → slice_get side e ≡ o
     → ((i : ℕ) → e ≤ i → slice_get (of_page sides n) i ≡ slice_get side i)
     → (i : ℕ) → e + 1 ≤ i → slice_get (of_page (noted_sides n o sides) n) i ≡ slice_get side i
-behind_stay sides n w side e None r a agree i l = agree i (omega (arith, l))
-behind_stay sides zero w side e (Some f) r a agree i l = absurd (none_there (agree e (omega arith) ∙ a))
+later_stay sides n w side e None r a agree i l = agree i (omega (arith, l))
+later_stay sides zero w side e (Some f) r a agree i l = absurd (none_there (agree e (omega arith) ∙ a))
   where
     none_there : None ≡ Some f → ⊥
     none_there z = cc
-behind_stay sides (suc n) w side e (Some f) r a agree i l = by_copied f.copied
+later_stay sides (suc n) w side e (Some f) r a agree i l = by_copied f.copied
   where
     j : e ≤ i
     j = omega (arith, l)
@@ -146,6 +153,26 @@ behind_stay sides (suc n) w side e (Some f) r a agree i l = by_copied f.copied
     by_copied false = ap (λ m. slice_get (get_or (change_at sides m (map (set_copied_of f.offset))) n []) i) one
         ∙ ap (λ (fs : List Forwarding). slice_get fs i) (set_read sides n (map (set_copied_of f.offset)) refl)
         ∙ mapped_elsewhere f.offset (of_page sides (suc n)) i far ∙ agree i j
+
+-- where the copies start is noted first, and then that the objects are copied
+noted_each : (words w n e k : ℕ) (side : List Forwarding) (starts : List (List Bool)) (sides : List (List Forwarding))
+    → AreRising w 0 side → ((i : ℕ) → e ≤ i → slice_get (of_page sides n) i ≡ slice_get side i)
+    → notes (started_from words side e k starts) (noted_range n e k sides)
+    ≡ noted_from words n e k (notes starts sides)
+noted_each words w n e zero side starts sides r agree = refl
+noted_each words w n e (suc k) side starts sides r agree =
+    let here = agree e (omega arith) in
+    ap (λ o. notes (started_from words side (e + 1) k (noted_starts words o starts))
+    (noted_range n (e + 1) k (noted_sides n (slice_get (of_page sides n) e) sides))) (sym here)
+    ∙ noted_each words w n (e + 1) k side (noted_starts words (slice_get (of_page sides n) e) starts)
+    (noted_sides n (slice_get (of_page sides n) e) sides) r
+    (later_stay sides n w side e (slice_get (of_page sides n) e) r (sym here) agree)
+
+pub noted_both : (words w n e k : ℕ) (starts now : List (List Bool)) (sides after : List (List Forwarding))
+    → AreRising w 0 (of_page sides n) → now ≡ started_from words (of_page sides n) e k starts
+    → after ≡ noted_range n e k sides → notes now after ≡ noted_from words n e k (notes starts sides)
+noted_both words w n e k starts now sides after r a b =
+    (λ z. notes (a z) (b z)) ∙ noted_each words w n e k (of_page sides n) starts sides r (λ i l. refl)
 
 -- one entry
 
@@ -329,7 +356,7 @@ module _ (n target : ℕ) (side : List Forwarding) (ls : List Layout) where
             (notes h.starts h.sides))).sides;
       })
       ∙ runs next (e + 1) k c (words_keep h.store target _ long s) r
-      (behind_stay h.sides n h.store.words side e o r refl agree)
+      (later_stay h.sides n h.store.words side e o r refl agree)
       (λ i f l z. to (i + 1) f (omega (arith, l)) (ap (slice_get side) (place i) ∙ z))
       ∙ ap (λ g. with_entries g n (e + 1) k) (one ∙ ap (with_entry h n) (sym now))
     where

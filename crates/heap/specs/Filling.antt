@@ -22,13 +22,13 @@ abbrev pub AreRunsTo : HeapState → List Target → Type 0
 AreRunsTo h ts = Each ts (λ (t : Target). Each t.runs.items (IsRunTo h t.page))
 
 -- a run of the same page begins after another one's end
-abbrev pub IsBehind : PageRun → PageRun → Type 0
-IsBehind r q = q.page ≡ r.page → r.first + r.count ≤ q.first
+abbrev pub IsAfter : PageRun → PageRun → Type 0
+IsAfter r q = q.page ≡ r.page → r.first + r.count ≤ q.first
 
 -- runs of one page follow each other
 abbrev pub AreInOrder : List PageRun → Type 0
 AreInOrder [] = Unit {0}
-AreInOrder (r ∷ rs) = Each rs (IsBehind r) × AreInOrder rs
+AreInOrder (r ∷ rs) = Each rs (IsAfter r) × AreInOrder rs
 
 -- runs are no longer than a page
 abbrev pub AreSmall : List PageRun → Type 0

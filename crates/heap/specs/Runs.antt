@@ -46,7 +46,13 @@ abbrev pub noted_starts : ℕ → Option Forwarding → List (List Bool) → Lis
 noted_starts words None starts = starts
 noted_starts words (Some f) starts = if f.copied then starts else with_bit starts words f.to true
 
--- the notes after that, for an entry of page n
+-- the same of k entries of a forwarding table, from number e on
+abbrev pub started_from : ℕ → List Forwarding → ℕ → ℕ → List (List Bool) → List (List Bool)
+started_from words side e zero starts = starts
+started_from words side e (suc k) starts =
+    started_from words side (e + 1) k (noted_starts words (slice_get side e) starts)
+
+-- the notes after the object of an entry of page n is copied
 abbrev pub noted_by : ℕ → ℕ → Option Forwarding → Notes → Notes
 noted_by words n o z = notes (noted_starts words o z.starts) (noted_sides n o z.sides)
 

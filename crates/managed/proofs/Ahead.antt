@@ -117,9 +117,9 @@ ahead law w h ps false g s i copied stays = subst (CopiesAhead w h) (sym (stays 
 same_frames : (w : ℕ) (h g : HeapState) → CopiesAhead w h g → SameFrames h g
 same_frames w h g k = record { pages = k.pages; owners = k.owners; count = k.count }
 
-freed_behind : (w : ℕ) (h m g : HeapState) (ns : List ℕ) → CopiesAhead w h m → PagesFreed w m ns g
+freed_after : (w : ℕ) (h m g : HeapState) (ns : List ℕ) → CopiesAhead w h m → PagesFreed w m ns g
     → PagesFreed w h ns g
-freed_behind w h m g ns a b =
+freed_after w h m g ns a b =
     let same = same_frames w h m a in
     record {
       goes = goes_then (IsCollecting w) h m g a.goes b.goes;
@@ -128,23 +128,23 @@ freed_behind w h m g ns a b =
       more = b.more ∙ ap (λ (c : ℕ). c + length ns) (free_same h m same);
     }
 
-pub ends_behind : (w : ℕ) (h m g : HeapState) (ns : List ℕ) (r : Result Unit Refusal) → CopiesAhead w h m
+pub ends_after : (w : ℕ) (h m g : HeapState) (ns : List ℕ) (r : Result Unit Refusal) → CopiesAhead w h m
     → EndsPages w m ns r g → EndsPages w h ns r g
-ends_behind w h m g ns (Ok u) a b = freed_behind w h m g ns a b
-ends_behind w h m g ns (Err e) a b = record {
+ends_after w h m g ns (Ok u) a b = freed_after w h m g ns a b
+ends_after w h m g ns (Err e) a b = record {
   goes = goes_then (IsCollecting w) h m g a.goes b.goes;
   before = b.before;
   page = b.page;
   behind = b.behind;
   order = b.order;
   there = b.there;
-  freed = freed_behind w h m b.there b.before a b.freed;
+  freed = freed_after w h m b.there b.before a b.freed;
   stops = b.stops;
 }
 
-pub crossed_behind : (w : ℕ) (h m : HeapState) → CopiesAhead w h m → all_crossed h ≡ Ok tt → all_crossed m ≡ Ok tt
+pub crossed_after : (w : ℕ) (h m : HeapState) → CopiesAhead w h m → all_crossed h ≡ Ok tt → all_crossed m ≡ Ok tt
 unfolding all_crossed
-crossed_behind w h m a e = ap (λ (ts : List ThreadState). none_behind (first_behind ts)) a.threads ∙ e
+crossed_after w h m a e = ap (λ (ts : List ThreadState). none_behind (first_behind ts)) a.threads ∙ e
 
 -- ---- pages that a step protected are named once
 

@@ -33,7 +33,7 @@ use Rattle.model.specs.declared.limits.TheConstants.{MOST_WORDS}
 use Rattle.page.specs.declared.targets.PageRun.{PageRun}
 use Rattle.page.specs.declared.targets.Target.{Target}
 use Rattle.page.specs.Filling.{runs_of}
-use Rattle.heap.specs.Filling.{AreInOrder, AreRunsTo, IsBehind, IsRunTo, with_runs}
+use Rattle.heap.specs.Filling.{AreInOrder, AreRunsTo, IsAfter, IsRunTo, with_runs}
 use Rattle.heap.specs.Runs.{with_entries, with_entry}
 use Rattle.heap.proofs.Runs.{entries_keep}
 use Rattle.relocate.specs.Many.{AddsTo, AreTiled, CopiesPages, MayCopyPage, Tiles}
@@ -137,7 +137,7 @@ tiles_order : (p e k : ℕ) (xs ys : List PageRun) → Tiles p e k xs → Each y
     → AreInOrder ys → AreInOrder (xs ++ ys)
 tiles_order p e k [] ys t others order = order
 tiles_order p e k (r ∷ xs) ys t others order = (
-  each_both (IsBehind r) xs ys
+  each_both (IsAfter r) xs ys
       (λ i q at same. omega (arith, (tiles_within p (e + r.count) t.0 xs t.4 i q at).1, t.2))
       (λ i q at same. absurd (others i q at (same ∙ t.1))),
   tiles_order p (e + r.count) t.0 xs ys t.4 others order,

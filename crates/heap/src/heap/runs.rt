@@ -3,40 +3,56 @@
 ghost use Rattle.std.specs.Prelude.{◌≡◌, ◌+◌, ◌<◌, ◌≤◌, ◌^◌, MatchBool, length, slice_get};
 ghost use Rattle.model.specs.Bits.{of_page};
 ghost use Rattle.model.specs.declared.limits.TheConstants.{MOST_WORDS};
-ghost use Rattle.forward.specs.Noting.{noted_sides};
-ghost use Rattle.heap.specs.Runs.{with_entries, GoTo, IsRunOn, goes_to, notes, noted_starts, noted_from};
+ghost use Rattle.heap.specs.Runs.{with_entries, GoTo, IsRunOn, goes_to, notes, noted_starts, noted_from, started_from};
 
 use crate::heap::Heap;
 use crate::heap::marks::put_bit;
-use forward::Sides;
+use forward::{Side, Sides};
 use markbits::Rows;
 use page::{PieceGate, Store};
 use std::thread::Threads;
 
-/// Notes that the object of an entry of a page is copied, if there is such an entry and it is uncopied.
+/// Notes where the copy of an entry's object starts, if there is such an entry and it is uncopied.
 #[inline(always)]
 #[tactic(auto, using(crate::proofs::Runs::started, crate::proofs::Runs::none_started))]
-fn note_copy(starts: &mut Rows, sides: &mut Sides, store: &Store, page: u64, entry: u32)
-    ensures starts { starts.new ≡ noted_starts store.now.words (slice_get (of_page sides.old page) entry) starts.old }
-    ensures sides { sides.new ≡ noted_sides page (slice_get (of_page sides.old page) entry) sides.old }
+fn note_start(starts: &mut Rows, side: &Side, store: &Store, entry: u32)
+    ensures { starts.new ≡ noted_starts store.now.words (slice_get side.now entry) starts.old }
 {
-    if let Some(to) = sides.note(page, entry) {
+    if let Some(to) = side.place_to_copy(entry as usize) {
         put_bit(starts, store, to, true);
     }
 }
 
 /// The same for `count` entries from a number on.
-#[tactic(auto, using(crate::proofs::Runs::noted_all))]
-fn note_each(starts: &mut Rows, sides: &mut Sides, store: &Store, page: u64, first: u32, count: u32)
+#[inline(never)]
+fn note_starts(starts: &mut Rows, side: &Side, store: &Store, first: u32, count: u32)
     requires { first + count < 2 ^ 32 }
-    ensures { notes starts.new sides.new ≡ noted_from store.now.words page first count (notes starts.old sides.old) }
+    ensures { starts.new ≡ started_from store.now.words side.now first count starts.old }
 {
     for index in 0..count {
-        note_copy(starts, sides, store, page, first + index);
+        note_start(starts, side, store, first + index);
     }
 }
 
-/// The same; and the place of the last entry is kept, after which the next one is looked up.
+/// The same for entries of a page.
+fn note_starts_of(
+    starts: &mut Rows,
+    sides: &Sides,
+    store: &Store,
+    page: u64,
+    first: u32,
+    count: u32,
+)
+    requires { first + count < 2 ^ 32 }
+    ensures { starts.new ≡ started_from store.now.words (of_page sides.now page) first count starts.old }
+{
+    if let Some(side) = sides.on(page) {
+        note_starts(starts, side, store, first, count);
+    }
+}
+
+/// Notes that the objects of `count` entries of a page from a number on are copied, and where their copies start, of
+/// entries that exist and are uncopied. The place of the last entry is kept, after which the next one is looked up.
 pub(crate) fn note_copies(
     starts: &mut Rows,
     sides: &mut Sides,
@@ -48,7 +64,8 @@ pub(crate) fn note_copies(
     requires { first + count < 2 ^ 32 }
     ensures { notes starts.new sides.new ≡ noted_from store.now.words page first count (notes starts.old sides.old) }
 {
-    note_each(starts, sides, store, page, first, count);
+    note_starts_of(starts, sides, store, page, first, count);
+    sides.note_run(page, first, count);
     sides.keep(page, (first + count).saturating_sub(1));
 }
 

@@ -10,5 +10,5 @@ returns c = same_test c.len.result c.count.result (uncopied_in c.args.self.now) 
   left_of c.self.inside.live c.self.inside.places c.self.inside.copied c.self.invariant.0,
   ap uncopied_in c.self.view_is,
   c.len.ensures,
-  c.count.ensures.value,
+  c.count.ensures,
 )) ∙ none_left c.args.self.now

@@ -10,7 +10,7 @@ use Rattle.forward.proofs.side.Side.set_copied.Goals as goal
 pub returns-then-test : goal.returns-then-test
 returns-then-test c =
     ap (entries_of c.self.inside.live c.self.inside.places)
-    (c.put.ensures ∙ ap (λ i. set c.self.inside.copied i true) c.rank-index.ensures)
+    (c.set.ensures ∙ ap (λ i. set c.self.inside.copied i true) c.rank-index.ensures)
     ∙ noted c.self.inside.live c.self.inside.places c.self.inside.copied c.self.invariant.0 c.args.offset
     (sym c.test.ensures ∙ c.if-test.true)
     ∙ ap (map (set_copied_of c.args.offset)) c.self.view_is

@@ -9,5 +9,5 @@ returns-clause-value c = omega (
   left_of c.self.inside.live c.self.inside.places c.self.inside.copied c.self.invariant.0,
   ap uncopied_in c.self.view_is,
   c.len.ensures,
-  c.count.ensures.value,
+  c.count.ensures,
 )
