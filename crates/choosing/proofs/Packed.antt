@@ -1,10 +1,12 @@
 -- Next fit, object by object, is the plan's next fit.
 use Rattle.std.proofs.Common.{◌≡◌, ℕ, ◌+◌, ◌-◌, ◌<◌, ◌≤◌, Bool, true, false, List, [], ◌∷◌, ◌++◌, cond}
-use Rattle.std.proofs.Common.{zero, suc, drop, length, map, nat_le, refl, sym, ap, ◌∙◌, arith, Some, None}
+use Rattle.std.proofs.Common.{zero, suc, drop, length, map, nat_le, refl, sym, ap, ◌∙◌, subst, arith, Option, Some, None}
 use Rattle.std.proofs.lemmas.Bool.{leb-false}
 use Rattle.std.proofs.lemmas.List.{drop_all}
 use Rattle.std.proofs.lemmas.Option.{same_Some}
-use Rattle.std.specs.List.{slice_get}
+use Rattle.std.specs.List.{slice_get, sum_by}
+use Rattle.std.specs.Prelude.{IfSome, option_map}
+use Rattle.std.proofs.lemmas.List.Sums.{sum_by-cons}
 use Rattle.model.specs.States.{HeapState}
 use Rattle.model.specs.Plans.{offsets_from, live_offsets, places_from, target_count}
 use Rattle.model.proofs.OfPages.{of_page_none, of_page_some}
@@ -129,6 +131,43 @@ one_there w s n l = by_test (nat_le (s.offset + n) w) refl
         (record { target = s.target + 1; offset = n; count = s.target + 2 }) ≡ packed_there s n
     by_test true e = refl
     by_test false e = absurd (omega (arith, l, leb-false (s.offset + n) w e))
+
+-- objects that fit together are packed there
+all_there : (w : ℕ) (f : ℕ → ℕ) (s : Packing) (k : ℕ) (ks : List ℕ) → s.offset + sum_by f (k ∷ ks) ≤ w
+    → packed_there s (sum_by f (k ∷ ks)) ≡ pack w s (map f (k ∷ ks))
+all_there w f s k [] l =
+    let one : sum_by f (k ∷ []) ≡ f k = omega (arith, sum_by-cons f k []) in
+    ap (packed_there s) one ∙ sym (one_there w s (f k) (omega (arith, l, one)))
+all_there w f s k (m ∷ ks) l =
+    let more : sum_by f (k ∷ m ∷ ks) ≡ f k + sum_by f (m ∷ ks) = sum_by-cons f k (m ∷ ks) in
+    let offset : s.offset + sum_by f (k ∷ m ∷ ks) ≡ s.offset + f k + sum_by f (m ∷ ks) = omega (arith, more) in
+    ap (λ o. record { target = s.target; offset = o; count = s.target + 1 }) offset
+    ∙ all_there w f (packed_there s (f k)) m ks (omega (arith, l, offset))
+    ∙ ap (λ z. pack w z (map f (m ∷ ks))) (sym (one_there w s (f k) (omega (arith, l, more))))
+
+pub pack_left : (w : ℕ) (f : ℕ → ℕ) (s new whole : Packing) (left rest : List ℕ) (k n : ℕ) → left ≡ k ∷ rest
+    → pack w s (map f left) ≡ whole → n ≡ sum_by f left → s.offset + n ≤ w → new ≡ packed_there s n → new ≡ whole
+pack_left w f s new whole left rest k n is so sum fits packed =
+    let all : n ≡ sum_by f (k ∷ rest) = sum ∙ ap (sum_by f) is in
+    packed ∙ ap (packed_there s) all ∙ all_there w f s k rest (omega (arith, fits, all))
+    ∙ sym (ap (λ l. pack w s (map f l)) is) ∙ so
+
+-- how many words are left after one more
+pub less_left : (f : ℕ → ℕ) (left rest : List ℕ) (k size : ℕ) (o after : Option ℕ) → left ≡ k ∷ rest → size ≡ f k
+    → IfSome o (λ n. n ≡ sum_by f left) → after ≡ option_map (λ n. n - size) o → IfSome after (λ n. n ≡ sum_by f rest)
+less_left f left rest k size o after is same known e =
+    subst (λ x. IfSome x (λ n. n ≡ sum_by f rest)) (sym e) (by_some o known)
+  where
+    by_some : (o : Option ℕ) → IfSome o (λ n. n ≡ sum_by f left)
+        → IfSome (option_map (λ n. n - size) o) (λ n. n ≡ sum_by f rest)
+    by_some None known = tt
+    by_some (Some n) known = omega (arith, known, ap (sum_by f) is, sum_by-cons f k rest, same)
+
+pub enough_left : (f : ℕ → ℕ) (left rest : List ℕ) (k size : ℕ) (o : Option ℕ) → left ≡ k ∷ rest → size ≡ f k
+    → IfSome o (λ n. n ≡ sum_by f left) → IfSome o (λ n. size ≤ n)
+enough_left f left rest k size None is same known = tt
+enough_left f left rest k size (Some n) is same known =
+    omega (arith, known, ap (sum_by f) is, sum_by-cons f k rest, same)
 
 -- the first of the objects from number i up to j that fit together is packed there, and the others fit after it
 module _ (w : ℕ) (s : Packing) (ns : List ℕ) (i j : ℕ) (low : i < j) (l : j ≤ length ns)

@@ -51,8 +51,8 @@ fn cut(
     let mut words = 0u64;
     let mut packing = first_packing();
     for index in 0..pages.len() {
-        let page = pages[index].1;
-        packing = pack_page(heap, page, packing);
+        let (live, page) = pages[index];
+        packing = pack_page(heap, page, Some(live), packing);
         if packing.count > u64::from(room) {
             return Ok(Choice {
                 pages: chosen,
@@ -61,7 +61,7 @@ fn cut(
             });
         }
         chosen.push(page)?;
-        words = words.saturating_add(pages[index].0);
+        words = words.saturating_add(live);
     }
     Ok(Choice {
         pages: chosen,
@@ -85,7 +85,7 @@ fn choose_of(alloc: Global, heap: &Heap, percent: u32, found: Found) -> Result<C
 
 /// Chooses pages as `choose` does, by a percentage of 0 to 100, and returns with them how many words their live objects
 /// have, and those of all pages. Fails only if out of memory. It reads the header of each live object once for its
-/// size, and once more for its place if its page is sparse.
+/// size, and some once more for their places if their page is sparse.
 pub fn choose_measured(alloc: Global, heap: &Heap, percent: u32) -> Result<Choice, AllocError>
     ensures pages { IfOk result (λ choice. IsChoice heap.now percent choice.pages.items) }
     ensures words { IfOk result (λ choice. choice.words ≡ words_on heap.now choice.pages.items) }

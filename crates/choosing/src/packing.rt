@@ -1,9 +1,10 @@
 //! Next fit: object by object, or by the sums of sizes that are kept.
 
-ghost use Rattle.std.specs.Prelude.{◌≡◌, ◌<◌, ◌≤◌, ◌+◌, ◌-◌, ◌^◌, length, map};
+ghost use Rattle.std.specs.Prelude.{◌≡◌, ◌<◌, ◌≤◌, ◌+◌, ◌-◌, ◌^◌, length, map, option_map, IfSome, Some};
+ghost use Rattle.std.specs.List.{sum_by};
 ghost use Rattle.model.specs.Plans.{offsets_from};
 ghost use Rattle.forward.specs.Sizes.{words_before};
-ghost use Rattle.choosing.specs.Choices.{size_on, sizes_on};
+ghost use Rattle.choosing.specs.Choices.{live_words, size_on, sizes_on};
 ghost use Rattle.choosing.specs.Packings.{has_page_for, pack, pack_if, pack_one, packed_there, first_packing};
 
 use forward::Sizes;
@@ -69,6 +70,19 @@ fn fitting(words: u32, packing: &Packing, sizes: &Sizes, number: usize) -> usize
     sizes.fitting(number, words - packing.offset)
 }
 
+/// Returns the packing after objects of `rest` words together that fit in the present target.
+fn pack_rest(packing: Packing, rest: u32) -> Packing
+    requires fits { packing.offset + rest < 2 ^ 32 }
+    requires targets { packing.target < 2 ^ 34 }
+    ensures { result ≡ packed_there packing rest }
+{
+    Packing {
+        target: packing.target,
+        offset: packing.offset + rest,
+        count: packing.target + 1,
+    }
+}
+
 /// Returns the packing after the objects from one number up to another, which fit in the present target.
 fn pack_fitting(packing: Packing, sizes: &Sizes, from: usize, to: usize) -> Packing
     requires order { from ≤ to }
@@ -77,11 +91,7 @@ fn pack_fitting(packing: Packing, sizes: &Sizes, from: usize, to: usize) -> Pack
     requires targets { packing.target < 2 ^ 34 }
     ensures { result ≡ packed_there packing (words_before sizes.now to - words_before sizes.now from) }
 {
-    Packing {
-        target: packing.target,
-        offset: packing.offset + (sizes.before(to) - sizes.before(from)),
-        count: packing.target + 1,
-    }
+    pack_rest(packing, sizes.before(to) - sizes.before(from))
 }
 
 /// Returns the packing after objects of these sizes, in targets of `words` words. How many fit in a target is found by
@@ -106,31 +116,63 @@ fn pack_sizes(words: u32, sizes: &Sizes, before: Packing) -> Packing
     packing
 }
 
-/// Returns the packing after the live objects of a page, by its number from 1 and its live bitmap.
-fn pack_row(heap: &Heap, page: u32, row: &Row, before: Packing) -> Packing
+/// Returns how many words the objects that are left have, if that is known and they fit in the present target together.
+fn fitting_rest(words: u32, packing: &Packing, left: Option<u64>) -> Option<u32>
+    ensures left { IfSome result (λ n. left ≡ Some n) }
+    ensures fits { IfSome result (λ n. packing.now.offset + n ≤ words) }
+{
+    let rest = left?;
+    if u64::from(packing.offset).saturating_add(rest) > u64::from(words) {
+        return None;
+    }
+    Some(rest as u32)
+}
+
+/// Returns how many words the objects have that are left after one of `size` words, if it is known how many they have
+/// with it.
+fn left_after(left: Option<u64>, size: u32) -> Option<u64>
+    requires { IfSome left (λ n. size ≤ n) }
+    ensures { result ≡ option_map (λ n. n - size) left }
+{
+    match left {
+        None => None,
+        Some(words) => Some(words - u64::from(size)),
+    }
+}
+
+/// Returns the packing after the live objects of a page, by its number from 1 and its live bitmap. If it is known how
+/// many words they have, the last ones, which fit in a target together, aren't read.
+fn pack_row(heap: &Heap, page: u32, row: &Row, live: Option<u64>, before: Packing) -> Packing
     requires low { 0 < page }
     requires high { page ≤ heap.now.store.count }
     requires size { length row.now ≤ heap.now.store.words }
+    requires live { IfSome live (λ n. n ≡ sum_by (size_on heap.now page) (offsets_from 0 row.now)) }
     requires targets { before.target ≤ 2 ^ 32 }
     ensures { result ≡ pack heap.now.store.words before (map (size_on heap.now page) (offsets_from 0 row.now)) }
 {
     let words = heap.memory().page_words();
     let memory = heap.memory().words(page);
     let mut packing = before;
+    let mut left = live;
     let mut from = 0;
     while let Some(offset) = row.next_from(from) {
+        if let Some(rest) = fitting_rest(words, &packing, left) {
+            return pack_rest(packing, rest);
+        }
         let size = heap.object_words_on(page, memory, offset);
         packing = pack_one(words, packing, size);
+        left = left_after(left, size);
         from = offset as usize + 1;
     }
     packing
 }
 
 /// Returns the packing after the live objects of a page, by its number from 1: by their sizes that are kept with the
-/// page, if no word of it was written since, else by their headers.
-pub(crate) fn pack_page(heap: &Heap, page: u32, before: Packing) -> Packing
+/// page, if no word of it was written since, else by their headers. How many words they have makes it faster, if known.
+pub(crate) fn pack_page(heap: &Heap, page: u32, live: Option<u64>, before: Packing) -> Packing
     requires low { 0 < page }
     requires high { page ≤ heap.now.store.count }
+    requires live { IfSome live (λ n. n ≡ live_words heap.now page) }
     requires targets { before.target ≤ 2 ^ 32 }
     requires offset { before.offset < 2 ^ 17 }
     ensures value { result ≡ pack heap.now.store.words before (sizes_on heap.now page) }
@@ -142,7 +184,7 @@ pub(crate) fn pack_page(heap: &Heap, page: u32, before: Packing) -> Packing
     }
     match heap.live().get((page - 1) as usize) {
         None => before,
-        Some(row) => pack_row(heap, page, row, before),
+        Some(row) => pack_row(heap, page, row, live, before),
     }
 }
 
@@ -164,5 +206,5 @@ pub fn packed_page(heap: &Heap, page: u32, before: Packing) -> Option<Packing>
     if !has_page_for(heap, page, &before) {
         return None;
     }
-    Some(pack_page(heap, page, before))
+    Some(pack_page(heap, page, None, before))
 }

@@ -27,7 +27,7 @@ use Rattle.page.specs.Runs.{known, source_with, with_run}
 use Rattle.page.proofs.Copied.{nothing_over}
 use Rattle.page.proofs.Runs.{unchanged, words_keep, words_twice, words_alike}
 use Rattle.forward.specs.Noting.{place_to_copy, noted_sides, noted_range}
-use Rattle.heap.specs.Runs.{with_entry, with_entries, GoTo, Notes, notes, noted_starts, noted_by}
+use Rattle.heap.specs.Runs.{with_entry, with_entries, GoTo, notes, noted_starts, noted_by}
 use Rattle.heap.specs.Runs.{noted_from, started_from}
 use Rattle.heap.proofs.Moving.{copy_keeps}
 

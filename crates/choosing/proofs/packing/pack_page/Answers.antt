@@ -7,6 +7,7 @@ use Rattle.choosing.specs.Choices.{sizes_on}
 use Rattle.choosing.specs.Packings.{pack}
 use Rattle.choosing.proofs.Low.{page_low}
 use Rattle.choosing.proofs.Packed.{none_packed, row_packed}
+use Rattle.choosing.proofs.Sums.{row_live}
 use Rattle.choosing.proofs.packing.pack_page.Goals as goal
 
 pub pack_row-requires-clause-size : goal.pack_row-requires-clause-size
@@ -46,3 +47,11 @@ returns-in-Some-get-clause-offset c = page_low c.args.heap.now c.args.page c.arg
     ∙ row_packed c.args.heap.now c.args.page c.requires.low c.args.before c.in-Some-get.row.now
     (ap (λ rows. slice_get rows (c.args.page - 1)) (sym c.live.ensures) ∙ sym c.get.ensures
     ∙ ap option_copied c.in-Some-get.is))
+
+pub pack_row-requires-clause-live : goal.pack_row-requires-clause-live
+pack_row-requires-clause-live c =
+    subst (λ m. IfSome c.args.live (λ n. n ≡ m))
+    (sym (row_live c.args.heap.now c.args.page c.requires.low c.in-Some-get.row.now
+    (ap (λ rows. slice_get rows (c.args.page - 1)) (sym c.live.ensures) ∙ sym c.get.ensures
+    ∙ ap option_copied c.in-Some-get.is)))
+    c.requires.live

@@ -1,4 +1,4 @@
-use Rattle.std.proofs.Common.{◌∙◌, sym, ap}
+use Rattle.std.proofs.Common.{◌∙◌}
 use Rattle.model.specs.declared.limits.TheConstants.{MOST_WORDS}
 use Rattle.heap.proofs.Runs.{noted_both}
 use Rattle.heap.proofs.heap.runs.note_copies.Goals as goal
