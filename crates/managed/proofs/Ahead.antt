@@ -15,7 +15,7 @@ use Rattle.model.specs.Emptying.{copies_from, copy_outcome, copy_page, copy_page
 use Rattle.model.specs.Emptying.{entry_on, heap_after}
 use Rattle.model.specs.Holding.{IsHeap}
 use Rattle.model.specs.Moves.{with_copy}
-use Rattle.model.specs.Outcome.{is_for_workers, outcome, worker_gate}
+use Rattle.model.specs.Outcome.{outcome, worker_gate}
 use Rattle.model.specs.Owning.{IsStore}
 use Rattle.model.specs.Phases.{is_idle}
 use Rattle.model.specs.Protections.{are_bad_pages, has_twice, no_page_in, protect_outcome}
@@ -27,7 +27,7 @@ use Rattle.refinement.proofs.Accepted.{OnAccepted, of_accepted, on_bind, on_some
 use Rattle.relocate.specs.Many.{CopiesPages}
 use Rattle.managed.specs.Collecting.{IsCollecting}
 use Rattle.managed.specs.Emptying.{CopiesAhead, EndsPages, PagesFreed}
-use Rattle.managed.specs.Goings.{Goes, entry}
+use Rattle.managed.specs.Goings.{entry}
 use Rattle.managed.proofs.Draining.{runs_held}
 use Rattle.managed.proofs.Frames.{SameFrames, bare_same, copy_page_phase, copy_page_row, free_same}
 use Rattle.managed.proofs.Going.{goes_none, goes_then}
