@@ -4,8 +4,6 @@ use Rattle.std.proofs.Common.{List, [], ◌∷◌, ◌++◌, length, replicate, 
 use Rattle.std.proofs.Common.{arith}
 use Rattle.std.proofs.Math.Nat.{eq-or-lt_of_le}
 use Rattle.std.proofs.lemmas.List.Sums.{sum_by-cons}
-use Rattle.std.proofs.lemmas.List.{get_or-set_other}
-use Rattle.std.proofs.Math.ListN.{length-set}
 use Rattle.forward.specs.Flags.{flags_of, AreFlags, put_run}
 
 -- a flag
@@ -50,21 +48,11 @@ set_above (suc d) i [] w l = absurd (omega (arith, w))
 set_above (suc d) zero (b ∷ row) w l = absurd (omega (arith, l))
 set_above (suc d) (suc i) (b ∷ row) w l = ap (λ xs. true ∷ xs) (set_above d i row (omega (arith, w)) (omega (arith, l)))
 
-pub still_flags : (d i : ℕ) (row : List Bool) → AreFlags d row → d ≤ i → AreFlags d (set row i true)
-still_flags d i row is l = record {
-  within = omega (arith, is.within, length-set row i true);
-  clear = λ j low. get_or-set_other row i j true false (λ same. omega (arith, same, low, l)) ∙ is.clear j low;
-  short = omega (arith, is.short, length-set row i true);
-}
-
 -- a run of them
 
 pub run_more : (i j k m : ℕ) (flags : List Bool) → k ≡ suc m → j ≡ i + 1
     → put_run i k flags ≡ put_run j m (set flags i true)
 run_more i j k m flags a b = ap (λ n. put_run i n flags) a ∙ ap (λ n. put_run n m (set flags i true)) (sym b)
-
-pub run_none : (i k : ℕ) (flags : List Bool) → k ≡ 0 → put_run i k flags ≡ flags
-run_none i k flags a = ap (λ n. put_run i n flags) a
 
 -- those that are set already
 pub run_below : (d i k : ℕ) (row : List Bool) → i + k ≤ d → flags_of d row ≡ put_run i k (flags_of d row)
@@ -133,19 +121,6 @@ run_over d e i k row none end low over fits =
     ap (λ m. flags_of m row) end ∙ ap (flags_of (i + k)) blank
     ∙ run_next (length row) d i k low (omega (arith, over, end)) (omega (arith, fits, end))
     ∙ ap (λ r. put_run i k (flags_of d r)) (sym blank)
-
-pub all_flags : (d e : ℕ) (row : List Bool) → AreFlags d row → count_by (λ b. b) row ≡ 0 → e ≤ length row
-    → AreFlags e row
-all_flags d e row is none fits = record {
-  within = fits;
-  clear = λ i low. ap (λ r. get_or r i false) (all_clear row none) ∙ clear (length row) i;
-  short = is.short;
-}
-  where
-    clear : (n i : ℕ) → get_or (replicate n false) i false ≡ false
-    clear zero i = refl
-    clear (suc n) zero = refl
-    clear (suc n) (suc i) = clear n i
 
 -- how many are set
 pub flags_counted : (d : ℕ) (row : List Bool) → AreFlags d row

@@ -60,10 +60,6 @@ pub started_more : (words e d k m : ℕ) (side : List Forwarding) (starts : List
 started_more words e d k m side starts a b = ap (λ j. started_from words side e j starts) a
     ∙ ap (λ j. started_from words side j m (noted_starts words (slice_get side e) starts)) (sym b)
 
-pub none_more : (words e k : ℕ) (side : List Forwarding) (starts : List (List Bool)) → k ≡ 0
-    → started_from words side e k starts ≡ starts
-none_more words e k side starts a = ap (λ j. started_from words side e j starts) a
-
 -- none start, where a page has no entries
 pub none_start : (words e k : ℕ) (starts : List (List Bool)) → starts ≡ started_from words [] e k starts
 none_start words e zero starts = refl
