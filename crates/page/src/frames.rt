@@ -16,6 +16,7 @@ use layout::Layouts;
 use markbits::Row;
 use std::alloc::{AllocError, Global};
 use std::marker::Model;
+use std::thread::{Threads, for_each_mut};
 
 /// The frames, by number from 0; a free one has no words. One frame may be set aside, so that it is read while
 /// another is written: this takes no time and no memory, and no contract sees it. It is put back when the next frame
@@ -30,8 +31,10 @@ pub struct Frames {
     /// The number of the frame that is set aside, or a number that no frame has if none is.
     held_at: usize,
     frames: Vec<Frame, Global>,
-    /// Cleared memory of frames that became free, or that were prepared.
+    /// Memory of frames that became free, or that were prepared: cleared, unless that is put off.
     kept: Vec<Frame, Global>,
+    /// The index from which on kept memory may not be cleared, while that is put off.
+    uncleared: Option<usize>,
 }
 
 impl Model for Frames {
@@ -86,6 +89,7 @@ impl Frames {
             held_at: frames.len(),
             frames,
             kept: Vec::new(alloc),
+            uncleared: None,
         })
     }
 
@@ -271,15 +275,40 @@ impl Frames {
         let _ = self.exchange(number, frame);
     }
 
-    /// Takes a frame's memory away: it has no words then. The memory is cleared and kept, or freed if out of memory
-    /// for the list of kept frames.
+    /// Puts off the clearing of frames that become free from now on, until `clear_by`.
+    pub(crate) fn put_off_clearing(&mut self)
+        ensures { self.new ≡ self.old }
+    {
+        self.uncleared = Some(self.kept.len());
+    }
+
+    /// Clears, on threads, the kept memory of frames that became free since the clearing was put off, and puts it off
+    /// no longer. It takes no memory.
+    pub(crate) fn clear_by<R: Threads + Sync>(&mut self, rt: &R, threads: u32)
+        requires { 0 < threads }
+        ensures { self.new ≡ self.old }
+    {
+        let Some(first) = self.uncleared else {
+            return;
+        };
+        self.uncleared = None;
+        if first < self.kept.len() {
+            let clear = |_index: usize, frame: &mut Frame| { frame.clear() };
+            for_each_mut(rt, self.kept.slice_mut(first..), threads as usize, &clear);
+        }
+    }
+
+    /// Takes a frame's memory away: it has no words then. The memory is cleared, unless that is put off, and kept, or
+    /// freed if out of memory for the list of kept frames.
     pub(crate) fn empty(&mut self, number: usize)
         requires { number < length self.old }
         ensures { self.new ≡ slice_set self.old number [] }
     {
         let none = Frame::empty(*self.frames.allocator());
         let mut old = self.exchange(number, none);
-        old.clear();
+        if self.uncleared.is_none() {
+            old.clear();
+        }
         let _ = self.kept.push(old);
     }
 

@@ -8,6 +8,7 @@ ghost use Rattle.page.specs.Owned.{words_or};
 use crate::frame::Frame;
 use crate::frames::Frames;
 use crate::owned::frame_at;
+use markbits::Row;
 use model::Page;
 use std::alloc::Global;
 
@@ -29,6 +30,8 @@ pub struct Target {
     pub page: u64,
     /// The page's words while a thread writes them; else none.
     pub frame: Frame,
+    /// Where objects start in the page, while a thread notes it; else of no meaning.
+    pub starts: Row,
     /// What is copied, one run after another.
     pub runs: Vec<PageRun, Global>,
 }
@@ -42,6 +45,7 @@ impl Target {
         Target {
             page,
             frame: Frame::empty(alloc),
+            starts: Row::empty(alloc),
             runs: Vec::new(alloc),
         }
     }

@@ -15,6 +15,7 @@ use crate::frame::Frame;
 use crate::store::Store;
 use model::{Buffer, Page, PageState, Room};
 use std::alloc::AllocError;
+use std::thread::Threads;
 
 impl Store {
     /// Returns whether a page is open.
@@ -242,6 +243,22 @@ impl Store {
         ensures { self.new ≡ self.old }
     {
         self.frames.trim(most);
+    }
+
+    /// Puts off the clearing of memory that pages release from now on, until `clear_by`.
+    pub fn put_off_clearing(&mut self)
+        ensures { self.new ≡ self.old }
+    {
+        self.frames.put_off_clearing();
+    }
+
+    /// Clears, on threads, the memory that pages released since the clearing was put off, and puts it off no longer.
+    /// It takes no memory.
+    pub fn clear_by<R: Threads + Sync>(&mut self, rt: &R, threads: u32)
+        requires { 0 < threads }
+        ensures { self.new ≡ self.old }
+    {
+        self.frames.clear_by(rt, threads);
     }
 
     /// Takes a buffer back. Its rest is lost until the page is released, so the store stays.
