@@ -24,9 +24,11 @@ use Rattle.page.specs.Filling.{AllHaveEntries, all_filled, runs_of}
 use Rattle.page.specs.Filling.{with_runs as stored_runs}
 use Rattle.page.specs.Runs.{source_with, with_run}
 use Rattle.page.proofs.Runs.{words_keep}
-use Rattle.heap.specs.Filling.{AreInOrder, AreRunsTo, AreSmall, IsAfter, IsRunTo, noted_runs, with_runs}
+use Rattle.heap.specs.Filling.{AreInOrder, AreRunsTo, AreSmall, IsAfter, IsRunTo, with_runs}
 use Rattle.heap.specs.Runs.{GoTo, Notes, notes, noted_by, noted_from, with_entries}
-use Rattle.heap.proofs.Runs.{later_stay, entries_keep, page_rises, runs}
+use Rattle.heap.specs.Starting.{AllGoTo, by_runs, run_noted, run_started, without_starts}
+use Rattle.heap.proofs.Runs.{later_stay, entries_keep, noted_each, page_rises, runs}
+use Rattle.heap.proofs.Starting.{same_filled, same_runs}
 
 -- notes of another page's copies
 
@@ -154,19 +156,28 @@ module _ (sides : List (List Forwarding)) (ls : List Layout) where
       → Each xs (λ (x : Aimed). GoTo h.store.words x.0 (of_page sides x.1.page) x.1.first x.1.count)
       → AreInOrder (only_runs xs) → record h {
         store = stored h.store xs;
-        starts = (noted_runs h.store.words (only_runs xs) (notes h.starts h.sides)).starts;
-        sides = (noted_runs h.store.words (only_runs xs) (notes h.starts h.sides)).sides;
+        starts = by_runs (run_started h.store.words sides) (only_runs xs) h.starts;
+        sides = by_runs run_noted (only_runs xs) h.sides;
       } ≡ with_runs h (only_runs xs)
   unfolding with_run with_words
   aimed_done h [] c s rise agree goes order = refl
   aimed_done h (x ∷ xs) c s rise agree goes order =
-      aimed_done next xs c (run_keeps h.store x.0 x.1 s) rise later (λ i y at. goes (suc i) y at) order.1
+      (λ j. record h {
+        store = stored next.store xs;
+        starts = by_runs (run_started h.store.words sides) (only_runs xs) (here j).starts;
+        sides = by_runs run_noted (only_runs xs) (here j).sides;
+      })
+      ∙ aimed_done next xs c (run_keeps h.store x.0 x.1 s) rise later (λ i y at. goes (suc i) y at) order.1
       ∙ ap (λ g. with_runs g (only_runs xs))
       (runs x.1.page x.0 (of_page sides x.1.page) ls h x.1.first x.1.count c s (rise x.1.page) (agree 0 x refl)
       (goes 0 x refl))
     where
       z : Notes
       z = noted_from h.store.words x.1.page x.1.first x.1.count (notes h.starts h.sides)
+
+      here : notes (run_started h.store.words sides x.1 h.starts) (run_noted x.1 h.sides) ≡ z
+      here = noted_each h.store.words h.store.words x.1.page x.1.first x.1.count (of_page sides x.1.page) h.starts
+          h.sides (rise x.1.page) (agree 0 x refl)
 
       next : HeapState
       next = record h {
@@ -197,41 +208,30 @@ module _ (sides : List (List Forwarding)) (ls : List Layout) where
       later : Agree next xs
       later i y at = by_page y (nat_eq y.1.page x.1.page) refl (order.0 i y.1 (run_of xs i y at)) (agree (suc i) y at)
 
--- the words of a page aren't more or fewer after it was filled
-words_stay : (sides : List (List Forwarding)) (ls : List Layout) (s : StoreState) (xs : List Aimed)
-    → (stored sides ls s xs).words ≡ s.words
-unfolding with_run with_words
-words_stay sides ls s [] = refl
-words_stay sides ls s (x ∷ xs) =
-    words_stay sides ls (with_run s x.1.page x.0 (of_page sides x.1.page) ls x.1.first x.1.count) xs
-
--- the runs of targets
+-- the runs of targets: us are ts, but for what they tell of starts, while these are filled
 pub runs_done : (h : HeapState) (ts us : List Target) (s : StoreState) (starts : List (List Bool))
     (sides : List (List Forwarding)) → IsStore h.store → IsHeap h → AreRunsTo h ts → AreInOrder (runs_of ts)
-    → s ≡ all_filled h.store h.sides h.config.layouts ts → runs_of us ≡ runs_of ts
-    → notes starts sides ≡ noted_runs s.words (runs_of us) (notes h.starts h.sides)
+    → map without_starts us ≡ map without_starts ts → s ≡ all_filled h.store h.sides h.config.layouts us
+    → starts ≡ by_runs (run_started h.store.words h.sides) (runs_of ts) h.starts
+    → sides ≡ by_runs run_noted (runs_of us) h.sides
     → record h { store = s; starts = starts; sides = sides } ≡ with_runs h (runs_of ts)
-runs_done h ts us s starts sides store i to order a b e =
+runs_done h ts us s starts sides store i to order same a b e =
     (λ j. record h {
       store = is j;
-      starts = (noted j).starts;
-      sides = (noted j).sides;
+      starts = (b ∙ ap (λ rs. by_runs (run_started h.store.words h.sides) rs h.starts) aimed) j;
+      sides = (e ∙ ap (λ rs. by_runs run_noted rs h.sides) (same_runs ts us same ∙ aimed)) j;
     })
     ∙ aimed_done h.sides h.config.layouts h (all_aimed ts) refl store (λ n. page_rises h n i)
     (λ j x at k l. refl)
     (λ j x at. (all_each_aimed (IsRunTo h) ts to j x at).run.1)
-    (subst AreInOrder (sym (all_runs_aimed ts)) order)
+    (subst AreInOrder aimed order)
     ∙ ap (with_runs h) (all_runs_aimed ts)
   where
+    aimed : runs_of ts ≡ only_runs (all_aimed ts)
+    aimed = sym (all_runs_aimed ts)
+
     is : s ≡ stored h.sides h.config.layouts h.store (all_aimed ts)
-    is = a ∙ all_stored h.sides h.config.layouts h.store ts
-
-    size : s.words ≡ h.store.words
-    size = ap (λ (t : StoreState). t.words) is ∙ words_stay h.sides h.config.layouts h.store (all_aimed ts)
-
-    noted : notes starts sides ≡ noted_runs h.store.words (only_runs (all_aimed ts)) (notes h.starts h.sides)
-    noted = e ∙ ap (λ w. noted_runs w (runs_of us) (notes h.starts h.sides)) size
-        ∙ ap (λ rs. noted_runs h.store.words rs (notes h.starts h.sides)) (b ∙ sym (all_runs_aimed ts))
+    is = a ∙ same_filled h.store h.sides h.config.layouts ts us same ∙ all_stored h.sides h.config.layouts h.store ts
 
 pub filled_heap : (h : HeapState) (rs : List PageRun) → IsHeap h → IsHeap (with_runs h rs)
 filled_heap h [] i = i
@@ -252,56 +252,6 @@ all_small h ts to = subst AreSmall (all_runs_aimed ts)
 pub all_have_entries : (h : HeapState) (ts : List Target) → AreRunsTo h ts → Each ts (AllHaveEntries h.sides)
 all_have_entries h ts to i t at j r there = (to i t at j r there).run.0
 
--- the notes of one run more
-pub noted_next : (words : ℕ) (starts then : List (List Bool)) (sides next : List (List Forwarding)) (all : Notes)
-    (rs : List PageRun) (i : ℕ) (d : PageRun) → noted_runs words (drop i rs) (notes starts sides) ≡ all
-    → i < length rs
-    → notes then next
-    ≡ noted_from words (get_or rs i d).page (get_or rs i d).first (get_or rs i d).count (notes starts sides)
-    → noted_runs words (drop (i + 1) rs) (notes then next) ≡ all
-noted_next words starts then sides next all rs i d k l e =
-    ap (noted_runs words (drop (i + 1) rs)) e
-    ∙ ap (λ qs. noted_runs words qs (notes starts sides)) (sym (drop_more rs i d l)) ∙ k
-
-pub noted_last : (words : ℕ) (starts : List (List Bool)) (sides : List (List Forwarding)) (all : Notes)
-    (rs : List PageRun) (i : ℕ) → noted_runs words (drop i rs) (notes starts sides) ≡ all → length rs ≤ i
-    → notes starts sides ≡ all
-noted_last words starts sides all rs i k l =
-    ap (λ qs. noted_runs words qs (notes starts sides)) (sym (drop_all i rs l)) ∙ k
-
-noted_both : (words : ℕ) (rs qs : List PageRun) (z : Notes)
-    → noted_runs words qs (noted_runs words rs z) ≡ noted_runs words (rs ++ qs) z
-noted_both words [] qs z = refl
-noted_both words (r ∷ rs) qs z = noted_both words rs qs (noted_from words r.page r.first r.count z)
-
--- those of one target more
-pub targets_next : (words : ℕ) (starts then : List (List Bool)) (sides next : List (List Forwarding)) (all : Notes)
-    (ts : List Target) (i : ℕ) (d : Target) → noted_runs words (runs_of (drop i ts)) (notes starts sides) ≡ all
-    → i < length ts → notes then next ≡ noted_runs words (get_or ts i d).runs.items (notes starts sides)
-    → noted_runs words (runs_of (drop (i + 1) ts)) (notes then next) ≡ all
-targets_next words starts then sides next all ts i d k l e =
-    ap (noted_runs words (runs_of (drop (i + 1) ts))) e
-    ∙ noted_both words (get_or ts i d).runs.items (runs_of (drop (i + 1) ts)) (notes starts sides)
-    ∙ ap (λ us. noted_runs words (runs_of us) (notes starts sides)) (sym (drop_more ts i d l)) ∙ k
-
-pub targets_last : (words : ℕ) (starts : List (List Bool)) (sides : List (List Forwarding)) (all : Notes)
-    (ts : List Target) (i : ℕ) → noted_runs words (runs_of (drop i ts)) (notes starts sides) ≡ all → length ts ≤ i
-    → notes starts sides ≡ all
-targets_last words starts sides all ts i k l =
-    ap (λ us. noted_runs words (runs_of us) (notes starts sides)) (sym (drop_all i ts l)) ∙ k
-
--- the runs of a target are small, if those of all are
-pub target_small : (ts : List Target) (i : ℕ) (d : Target) → AreSmall (runs_of ts) → i < length ts
-    → AreSmall (get_or ts i d).runs.items
-target_small [] i d h l = absurd (omega (arith, l))
-target_small (t ∷ ts) zero d h l = front t.runs.items (runs_of ts) h
-  where
-    front : (rs qs : List PageRun) → AreSmall (rs ++ qs) → AreSmall rs
-    front [] qs k j r at = absurd (cc)
-    front (x ∷ rs) qs k zero r at = k 0 r at
-    front (x ∷ rs) qs k (suc j) r at = front rs qs (λ m y there. k (suc m) y there) j r at
-target_small (t ∷ ts) (suc i) d h l = target_small ts i d (back t.runs.items (runs_of ts) h) (omega (arith, l))
-  where
-    back : (rs qs : List PageRun) → AreSmall (rs ++ qs) → AreSmall qs
-    back [] qs k = k
-    back (x ∷ rs) qs k = back rs qs (λ m y there. k (suc m) y there)
+-- so do the targets', for their runs
+pub all_go_to : (h : HeapState) (ts : List Target) → AreRunsTo h ts → AllGoTo h.store.words h.sides ts
+all_go_to h ts to i t at j r there = (to i t at j r there).run.1

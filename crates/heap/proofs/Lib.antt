@@ -23,4 +23,6 @@ pub mod Sizing
 pub mod Scanning
 pub mod Parted
 pub mod SwappedRows
+pub mod Starting
+pub mod SwappedStarts
 pub mod Filled

@@ -151,7 +151,7 @@ later_stay sides (suc n) w side e (Some f) r a agree i l = by_copied f.copied
         ∙ mapped_elsewhere f.offset (of_page sides (suc n)) i far ∙ agree i j
 
 -- where the copies start is noted first, and then that the objects are copied
-noted_each : (words w n e k : ℕ) (side : List Forwarding) (starts : List (List Bool)) (sides : List (List Forwarding))
+pub noted_each : (words w n e k : ℕ) (side : List Forwarding) (starts : List (List Bool)) (sides : List (List Forwarding))
     → AreRising w 0 side → ((i : ℕ) → e ≤ i → slice_get (of_page sides n) i ≡ slice_get side i)
     → notes (started_from words side e k starts) (noted_range n e k sides)
     ≡ noted_from words n e k (notes starts sides)

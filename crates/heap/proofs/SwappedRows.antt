@@ -6,11 +6,11 @@ use Rattle.page.specs.declared.owned.OwnedPage.{OwnedPage}
 use Rattle.page.specs.declared.owned.Part.{Part}
 use Rattle.heap.specs.Owning.{SwappedRows, SwappedRowsOf}
 
-together : {X : Type 0} (xs : List X) (x : X) (ys : List X) → (xs ++ x ∷ []) ++ ys ≡ xs ++ x ∷ ys
+pub together : {X : Type 0} (xs : List X) (x : X) (ys : List X) → (xs ++ x ∷ []) ++ ys ≡ xs ++ x ∷ ys
 together [] x ys = refl
 together (z ∷ xs) x ys = ap (λ us. z ∷ us) (together xs x ys)
 
-append_none : {X : Type 0} (xs : List X) → xs ++ [] ≡ xs
+pub append_none : {X : Type 0} (xs : List X) → xs ++ [] ≡ xs
 append_none [] = refl
 append_none (x ∷ xs) = ap (λ us. x ∷ us) (append_none xs)
 

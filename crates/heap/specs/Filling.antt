@@ -5,7 +5,7 @@ use Rattle.model.specs.States.{HeapState}
 use Rattle.model.specs.declared.limits.TheConstants.{MOST_WORDS}
 use Rattle.page.specs.declared.targets.PageRun.{PageRun}
 use Rattle.page.specs.declared.targets.Target.{Target}
-use Rattle.heap.specs.Runs.{IsRunOn, Notes, noted_from, with_entries}
+use Rattle.heap.specs.Runs.{IsRunOn, with_entries}
 
 -- the heap after the objects of runs were copied, one run after another
 abbrev pub with_runs : HeapState → List PageRun → HeapState
@@ -33,8 +33,3 @@ AreInOrder (r ∷ rs) = Each rs (IsAfter r) × AreInOrder rs
 -- runs are no longer than a page
 abbrev pub AreSmall : List PageRun → Type 0
 AreSmall rs = Each rs (λ r. r.first + r.count ≤ MOST_WORDS)
-
--- the notes after the objects of runs were copied, one run after another
-abbrev pub noted_runs : ℕ → List PageRun → Notes → Notes
-noted_runs words [] z = z
-noted_runs words (r ∷ rs) z = noted_runs words rs (noted_from words r.page r.first r.count z)

@@ -12,3 +12,4 @@ pub mod Writing
 pub mod Entries
 pub mod Owning
 pub mod Filling
+pub mod Starting

@@ -17,6 +17,7 @@ mod registers;
 mod relocating;
 mod runs;
 mod sides;
+mod starting;
 mod writing;
 
 ghost use Rattle.std.specs.Prelude.{◌≡◌, ◌<◌, ◌≤◌, ◌*◌, ◌+◌, position, length, IfSome};

@@ -23,6 +23,7 @@ use layout::layout_of;
 use model::{Buffer, Phase, Room};
 use refword::Addr;
 use std::alloc::AllocError;
+use std::thread::Threads;
 
 /// Returns the word at an offset of a page's words, if it exists.
 #[inline(always)]
@@ -180,6 +181,22 @@ impl Heap {
         self.mark.trim(most);
         self.todo.trim(most);
         self.sides.trim();
+    }
+
+    /// Puts off the clearing of memory that pages release from now on, until `clear_by`. Nothing else changes.
+    pub fn put_off_clearing(&mut self)
+        ensures { self.new ≡ self.old }
+    {
+        self.store.put_off_clearing();
+    }
+
+    /// Clears, on threads, the memory that pages released since the clearing was put off, and puts it off no longer.
+    /// It takes no memory. Nothing else changes.
+    pub fn clear_by<R: Threads + Sync>(&mut self, rt: &R, threads: u32)
+        requires { 0 < threads }
+        ensures { self.new ≡ self.old }
+    {
+        self.store.clear_by(rt, threads);
     }
 
     /// Releases the memory of a page that is being emptied.

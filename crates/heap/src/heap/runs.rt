@@ -35,7 +35,7 @@ fn note_starts(starts: &mut Rows, side: &Side, store: &Store, first: u32, count:
 }
 
 /// The same for entries of a page.
-fn note_starts_of(
+pub(crate) fn note_starts_of(
     starts: &mut Rows,
     sides: &Sides,
     store: &Store,
