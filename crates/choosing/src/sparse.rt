@@ -51,7 +51,7 @@ fn is_closed(heap: &Heap, page: u32) -> bool
 }
 
 /// Returns whether a page has memory, and isn't protected.
-fn is_in_use(heap: &Heap, page: u32) -> bool
+pub(crate) fn is_in_use(heap: &Heap, page: u32) -> bool
     ensures { result ≡ is_in_use heap.now page }
 {
     matches!(

@@ -1,10 +1,10 @@
 //! Pages that are measured on threads.
 
-ghost use Rattle.std.specs.Prelude.{◌≡◌, ◌<◌, ◌≤◌, ◌*◌, ◌+◌, ◌^◌, ◌++◌, length, min, IfOk, IfSome, OnOk};
-ghost use Rattle.choosing.specs.Choices.{AreOf, all_words, sparse_pages};
+ghost use Rattle.std.specs.Prelude.{◌≡◌, ◌<◌, ◌≤◌, ◌*◌, ◌+◌, ◌^◌, ◌++◌, length, min, false, IfOk, IfSome, OnOk, ℕ};
+ghost use Rattle.choosing.specs.Choices.{AreOf, all_words, is_in_use, sparse_pages};
 ghost use Rattle.choosing.specs.Parts.{ArePartsOf, end_of};
 
-use crate::sparse::{Found, sparse, sparse_in};
+use crate::sparse::{Found, is_in_use, sparse, sparse_in};
 use heap::Heap;
 use std::alloc::{AllocError, Global};
 use std::thread::{Threads, map_indices};
@@ -119,8 +119,22 @@ fn join_parts(
     Ok(found)
 }
 
-/// Measures all pages as `sparse` does, on a number of threads, each for some of the pages. Fails only if out of
-/// memory.
+/// Returns the number of the last page in use; 0 if none is.
+fn last_in_use(heap: &Heap) -> u32
+    ensures range { result ≤ heap.now.store.count }
+    ensures after { (page : ℕ) → result < page → page ≤ heap.now.store.count → is_in_use heap.now page ≡ false }
+{
+    let pages = heap.memory().page_count();
+    for index in 0..pages {
+        if is_in_use(heap, pages - index) {
+            return pages - index;
+        }
+    }
+    0
+}
+
+/// Measures all pages as `sparse` does, on a number of threads, each for some of the pages up to the last one in use;
+/// the others have no live words. Fails only if out of memory.
 pub(crate) fn sparse_by<R: Threads + Sync>(
     rt: &R,
     alloc: Global,
@@ -132,7 +146,7 @@ pub(crate) fn sparse_by<R: Threads + Sync>(
     ensures words { IfOk result (λ found. found.live_words ≡ all_words heap.now) }
 {
     let threads = threads.clamp(1, 1024);
-    let size = heap.memory().page_count() / threads + 1;
+    let size = last_in_use(heap) / threads + 1;
     let Ok(parts) = measure_parts(rt, heap, percent, size, threads) else {
         return sparse(alloc, heap, percent);
     };

@@ -71,6 +71,7 @@ fn empty_choice<M: Executor>(
     ensures scrubbed { needs_no_scrub heap.old.phase ≡ true → IfOk result (λ collected. AreScrubbed heap.new) }
 {
     let (live_words, copied) = (choice.live_words, choice.words);
+    by.prepare(heap, copied);
     match empty_chosen(heap, choice.pages, by) {
         Ok(emptied) => Ok(Collected {
             live,

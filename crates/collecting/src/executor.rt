@@ -39,6 +39,11 @@ pub(crate) trait Executor {
         ensures words { IfOk result (λ choice. choice.words ≡ words_on heap.now choice.pages.items) }
         ensures live { IfOk result (λ choice. choice.live_words ≡ all_words heap.now) };
 
+    /// Prepares memory for the pages to which `words` words are copied, or does nothing. The state of the heap stays.
+    fn prepare(&self, heap: &mut ManagedHeap, words: u64)
+        requires { may_mark self.now }
+        ensures { heap.new ≡ heap.old };
+
     /// Empties pages, as `ManagedHeap::empty` does.
     fn empty(&self, heap: &mut ManagedHeap, pages: Vec<u32>) -> Result<(), Refusal>
         requires { may_mark self.now }
@@ -62,6 +67,8 @@ impl Executor for Alone {
     fn choose(&self, alloc: Global, heap: &Heap, percent: u32) -> Result<Choice, AllocError> {
         choose_measured(alloc, heap, percent)
     }
+
+    fn prepare(&self, _heap: &mut ManagedHeap, _words: u64) {}
 
     fn empty(&self, heap: &mut ManagedHeap, pages: Vec<u32>) -> Result<(), Refusal> {
         heap.empty(0, pages)
@@ -88,6 +95,12 @@ impl<'a, R: Threads + Sync> Executor for OnThreads<'a, R> {
 
     fn choose(&self, alloc: Global, heap: &Heap, percent: u32) -> Result<Choice, AllocError> {
         choose_measured_by(self.rt, alloc, heap, percent, self.threads)
+    }
+
+    fn prepare(&self, heap: &mut ManagedHeap, words: u64) {
+        if self.threads > 1 {
+            heap.prepare_frames_by(self.rt, words, self.threads);
+        }
     }
 
     fn empty(&self, heap: &mut ManagedHeap, pages: Vec<u32>) -> Result<(), Refusal> {

@@ -1,16 +1,15 @@
 -- Starts of the copies of many runs, noted page by page.
 use Rattle.std.proofs.Common.{◌≡◌, ◌≢◌, ℕ, zero, suc, ◌+◌, ◌-◌, ◌/◌, ◌%◌, ◌<◌, ◌≤◌, Bool, true, false, cond}
-use Rattle.std.proofs.Common.{List, [], ◌∷◌, ◌++◌, length, map, drop, take, get_or, set, Option, Some, None}
+use Rattle.std.proofs.Common.{List, [], ◌∷◌, ◌++◌, length, map, drop, get_or, set, Option, Some, None}
 use Rattle.std.proofs.Common.{refl, sym, ◌∙◌, ap, subst, arith}
 use Rattle.std.specs.List.{slice_get}
 use Rattle.std.proofs.lemmas.Bool.{true≢false}
-use Rattle.std.proofs.lemmas.List.{drop_more, drop_all, take_all, take_more_set, drop-set-lt, set-set, get_or-set_other}
-use Rattle.std.proofs.lemmas.List.{ext_get_or}
+use Rattle.std.proofs.lemmas.List.{drop_more, drop_all, set-set, get_or-set_other}
 use Rattle.std.proofs.lemmas.Option.{same_Some}
 use Rattle.layout.specs.declared.shape.Layout.{Layout}
 use Rattle.model.specs.Bits.{of_page, put_bit, with_bit}
 use Rattle.model.specs.Owning.{Each}
-use Rattle.model.specs.States.{change_at, change_found}
+use Rattle.model.specs.States.{change_at}
 use Rattle.model.specs.Stores.{StoreState}
 use Rattle.model.specs.declared.records.Forwarding.{Forwarding}
 use Rattle.forward.specs.Noting.{place_to_copy}

@@ -32,8 +32,8 @@ impl ManagedHeap {
     }
 
     /// Empties complete pages as `empty` does, with the same errors. The words of their objects are copied by `threads`
-    /// threads, each to some of the pages that they go to; with fewer than two, with few objects, or if out of memory,
-    /// this thread does it.
+    /// threads, each to some of the pages that they go to, and the memory that pages release is cleared by them; with
+    /// fewer than two, with few objects, or if out of memory, this thread does it.
     pub fn empty_by<R: Threads + Sync>(
         &mut self,
         rt: &R,
@@ -105,7 +105,9 @@ impl ManagedHeap {
         ensures scrubbed { IfOk result (λ done. AreScrubbed self.new) }
     {
         by.copy(self, worker, pages);
-        self.empty_crossed(worker, pages)
+        let ended = self.empty_crossed(worker, pages);
+        by.clear(self);
+        ended
     }
 
     /// Finishes the emptying of protected pages, as `empty` does after their protection.

@@ -1,6 +1,6 @@
 //! The managed heap.
 
-ghost use Rattle.std.specs.Prelude.{◌≡◌};
+ghost use Rattle.std.specs.Prelude.{◌≡◌, ◌<◌};
 ghost use Rattle.model.specs.Refusing.{DoesStep};
 ghost use Rattle.model.specs.Outcome.{outcome};
 ghost use Rattle.refinement.specs.Standing.{KeepsStanding};
@@ -11,6 +11,7 @@ use heap::{Config, Heap, NewFault};
 use model::{Actor, Reply, Step};
 use std::alloc::{AllocError, Global};
 use std::marker::Model;
+use std::thread::Threads;
 
 /// A heap that represents a reference model, as its type guarantees.
 #[derive(Drop)]
@@ -29,6 +30,9 @@ impl Model for ManagedHeap {
 
     ghost invariant = { λ m. IsManaged m.heap };
 }
+
+/// Less memory than this many words is prepared faster by one thread.
+const LITTLE: u64 = 1 << 16;
 
 impl ManagedHeap {
     /// Proves what holds for every managed heap: a history of accepted steps has made it of the first heap of its
@@ -76,6 +80,20 @@ impl ManagedHeap {
         }
         self.heap.prepare_frame()?;
         Ok(true)
+    }
+
+    /// Allocates memory for the words of the pages that `words` words fill, less what is kept, on threads, and keeps it,
+    /// cleared, for the next pages; if that is little, it does nothing. It does less if out of memory. The state of the
+    /// heap stays.
+    pub fn prepare_frames_by<R: Threads + Sync>(&mut self, rt: &R, words: u64, threads: u32)
+        requires { 0 < threads }
+        ensures { self.new ≡ self.old }
+    {
+        let size = u64::from(self.heap.memory().page_words());
+        let count = (words / size).saturating_sub(self.heap.kept_frames() as u64);
+        if count >= LITTLE / size {
+            let _done = self.heap.prepare_frames_by(rt, count as usize, threads);
+        }
     }
 
     /// Keeps the sizes of the live objects of a page, by its number from 1, until a word of the page is written or the

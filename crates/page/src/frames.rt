@@ -16,7 +16,7 @@ use layout::Layouts;
 use markbits::Row;
 use std::alloc::{AllocError, Global};
 use std::marker::Model;
-use std::thread::{Threads, for_each_mut};
+use std::thread::{Threads, for_each_mut, map_indices};
 
 /// The frames, by number from 0; a free one has no words. One frame may be set aside, so that it is read while
 /// another is written: this takes no time and no memory, and no contract sees it. It is put back when the next frame
@@ -57,6 +57,29 @@ fn empty_frames(alloc: Global, count: u32) -> Result<Vec<Frame, Global>, AllocEr
         frames.push(Frame::empty(alloc))?;
     }
     Ok(frames)
+}
+
+/// Returns `count` frames of a number of words, all 0. Fails only if out of memory.
+fn blank_frames(alloc: Global, words: u32, count: usize) -> Result<Vec<Frame, Global>, AllocError>
+    ensures { IfOk result (λ v. v.items ≡ replicate count (replicate words 0)) }
+{
+    let mut frames = Vec::with_capacity(alloc, count)?;
+    for _frame in 0..count {
+        frames.push(Frame::new(alloc, words)?)?;
+    }
+    Ok(frames)
+}
+
+/// Appends lists of frames to a list. Fails if one is missing, or if out of memory; it has appended some then.
+fn append_all(
+    frames: &mut Vec<Frame, Global>,
+    parts: Vec<Option<Vec<Frame, Global>>, Global>,
+) -> Result<(), AllocError> {
+    for part in parts {
+        let mut more = part.ok_or(AllocError)?;
+        frames.append(&mut more)?;
+    }
+    Ok(())
 }
 
 /// Puts the frame that is set aside back in its place.
@@ -193,6 +216,25 @@ impl Frames {
         let alloc = *self.frames.allocator();
         self.kept.push(Frame::new(alloc, words)?)?;
         Ok(())
+    }
+
+    /// Allocates and clears memory for `count` frames more, or a few more than that, on threads, as `prepare` does for
+    /// one. Fails only if out of memory; it has kept some of it then.
+    pub(crate) fn prepare_by<R: Threads + Sync>(
+        &mut self,
+        rt: &R,
+        words: u32,
+        count: usize,
+        threads: u32,
+    ) -> Result<(), AllocError>
+        requires { 0 < threads }
+        ensures { self.new ≡ self.old }
+    {
+        let alloc = *self.frames.allocator();
+        let share = count.div_ceil(threads as usize);
+        let make = |_part: usize| -> Option<Vec<Frame, Global>> { blank_frames(alloc, words, share).ok() };
+        let parts = map_indices(rt, alloc, threads as usize, &make)?;
+        append_all(&mut self.kept, parts)
     }
 
     /// Keeps the sizes of objects in a frame, as `Frame::keep_sizes`. Fails only if out of memory.

@@ -164,6 +164,21 @@ impl Heap {
         self.store.prepare_frame()
     }
 
+    /// Allocates memory for the words of `count` pages more, or of a few more than that, on threads, and keeps it,
+    /// cleared, for pages that open later. Fails only if out of memory; it has kept some of it then. Nothing else
+    /// changes.
+    pub fn prepare_frames_by<R: Threads + Sync>(
+        &mut self,
+        rt: &R,
+        count: usize,
+        threads: u32,
+    ) -> Result<(), AllocError>
+        requires { 0 < threads }
+        ensures { self.new ≡ self.old }
+    {
+        self.store.prepare_frames_by(rt, count, threads)
+    }
+
     /// Returns how many pages' memory is kept for the next pages that open: from pages that released it, and
     /// prepared.
     pub fn kept_frames(&self) -> usize {

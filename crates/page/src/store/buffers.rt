@@ -232,6 +232,20 @@ impl Store {
         self.frames.prepare(self.words)
     }
 
+    /// Allocates and clears memory for `count` pages more, or a few more than that, on threads, as `prepare_frame` does
+    /// for one. Fails only if out of memory; it has kept some of it then.
+    pub fn prepare_frames_by<R: Threads + Sync>(
+        &mut self,
+        rt: &R,
+        count: usize,
+        threads: u32,
+    ) -> Result<(), AllocError>
+        requires { 0 < threads }
+        ensures { self.new ≡ self.old }
+    {
+        self.frames.prepare_by(rt, self.words, count, threads)
+    }
+
     /// Returns how many pages' memory is kept for the next pages that are opened: memory of frames that became free,
     /// and prepared memory.
     pub fn kept_frames(&self) -> usize {

@@ -1,4 +1,4 @@
-use Rattle.std.proofs.Common.{ap, arith, subst, sym, ◌∙◌}
+use Rattle.std.proofs.Common.{ap, sym, ◌∙◌}
 use Rattle.heap.specs.Starting.{with_starts}
 use Rattle.heap.proofs.Starting.{all_with, lent_small}
 use Rattle.heap.proofs.heap.starting.note_by.Goals as goal
