@@ -232,7 +232,9 @@ impl Frames {
     {
         let alloc = *self.frames.allocator();
         let share = count.div_ceil(threads as usize);
-        let make = |_part: usize| -> Option<Vec<Frame, Global>> { blank_frames(alloc, words, share).ok() };
+        let make = |_part: usize| -> Option<Vec<Frame, Global>> {
+            blank_frames(alloc, words, share).ok()
+        };
         let parts = map_indices(rt, alloc, threads as usize, &make)?;
         append_all(&mut self.kept, parts)
     }
