@@ -80,8 +80,9 @@ starts() {
 }
 
 # A mark on four threads starts three for its wave, and three for what the parts have sent to each
-# other. Objects that are copied to two targets take one thread besides that of the call.
+# other. Besides that of the call, memory that is prepared on three threads takes two, the starts of
+# copies on two targets one, the copies one, and the memory of four pages that is cleared three.
 starts test_heap waving::four_threads_mark_as_one 6
-starts test_library emptying::pages_are_emptied_on_threads 1
+starts test_library emptying::pages_are_emptied_on_threads 7
 echo "$passed passed, $failed failed"
 [ "$failed" = 0 ]

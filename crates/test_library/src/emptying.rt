@@ -48,13 +48,31 @@ fn pages_are_emptied(rt: HostRuntime) -> Result<(), Fail> {
     empties(&rt, rt.alloc(), &mut heap)
 }
 
-/// A heap of 2,400 objects is emptied by this thread, and another on several: both are the same then.
+/// Memory for fifteen pages is too little to be prepared on threads. For sixteen, three threads prepare six each. If
+/// that is out of memory, the test fails so.
+fn prepares<R: Abort + Threads + Sync>(rt: &R, heap: &mut ManagedHeap) -> Result<(), Fail> {
+    let words = 4_096 * 16;
+    heap.prepare_frames_by(rt, words - 1, 3);
+    same(rt, heap.kept_frames(), 0);
+    heap.prepare_frames_by(rt, words, 3);
+    if heap.kept_frames() < 18 {
+        return Err(Fail::from(AllocError));
+    }
+    same(rt, heap.kept_frames(), 18);
+    heap.prepare_frames_by(rt, words, 3);
+    same(rt, heap.kept_frames(), 18);
+    Ok(())
+}
+
+/// A heap of 2,400 objects is emptied by this thread, and another on several: both are the same then. Memory of the
+/// other was prepared before.
 fn empties_as<R: Abort + Threads + Sync>(
     rt: &R,
     alloc: Global,
     one: &mut ManagedHeap,
     other: &mut ManagedHeap,
 ) -> Result<(), Fail> {
+    prepares(rt, other)?;
     fill_large(one)??;
     fill_large(other)??;
     Emptying::empty(one, alloc)??;
