@@ -1,5 +1,6 @@
 -- A page in use has a number, and only such a page is sparse.
-use Rattle.std.proofs.Common.{◌≡◌, ℕ, ◌<◌, ◌≤◌, true, false, not, sym, ◌∙◌, ap, refl, Option, Some, None}
+use Rattle.std.proofs.Common.{◌≡◌, ◌⊎◌, inl, inr, ℕ, ◌+◌, ◌-◌, ◌<◌, ◌≤◌, true, false, not, sym, ◌∙◌, ap, arith, refl, Option, Some, None}
+use Rattle.std.proofs.Math.Nat.{eq-or-lt_of_le}
 use Rattle.std.specs.Prelude.{◌*◌, ◌&&◌, if◌then◌else◌, nat_le}
 use Rattle.model.specs.declared.records.PageState.{PageState}
 use Rattle.model.specs.declared.records.PageState.TheVariants.{Unused, Open, Closed, From, Gone}
@@ -33,3 +34,13 @@ unused_dense h percent n e = by (state_at h.store n) e
     by Closed k = absurd (cc)
     by From k = refl
     by Gone k = refl
+
+-- the last pages, up to page n, aren't in use: one page more, and all of them
+pub none_more : (h : HeapState) (n k : ℕ)
+    → ((page : ℕ) → n < page + k → page ≤ n → is_in_use h page ≡ false) → k < n → is_in_use h (n - k) ≡ false
+    → (page : ℕ) → n < page + (k + 1) → page ≤ n → is_in_use h page ≡ false
+none_more h n k none l here page low high = by_place (eq-or-lt_of_le (omega (arith, low)))
+  where
+    by_place : (n ≡ page + k) ⊎ (n < page + k) → is_in_use h page ≡ false
+    by_place (inl e) = ap (is_in_use h) (omega (arith, e)) ∙ here
+    by_place (inr e) = none page e high
