@@ -82,18 +82,21 @@ impl ManagedHeap {
         Ok(true)
     }
 
-    /// Allocates memory for the words of the pages that `words` words fill, less what is kept, on threads, and keeps it,
-    /// cleared, for the next pages; if that is little, it does nothing. It does less if out of memory. The state of the
-    /// heap stays.
+    /// Allocates memory for the words of the pages that `words` words fill, less what is kept, and keeps it, cleared,
+    /// for the next pages. Each thread does so for as many of them; those left over, and few of them, are left alone. It
+    /// does less if out of memory. The state of the heap stays.
     pub fn prepare_frames_by<R: Threads + Sync>(&mut self, rt: &R, words: u64, threads: u32)
         requires { 0 < threads }
         ensures { self.new ≡ self.old }
     {
         let size = u64::from(self.heap.memory().page_words());
         let count = (words / size).saturating_sub(self.heap.kept_frames() as u64);
-        if count >= LITTLE / size {
-            let _done = self.heap.prepare_frames_by(rt, count as usize, threads);
+        if count < (LITTLE / size).max(1) {
+            return;
         }
+        let threads = u64::from(threads).min(count) as u32;
+        let even = count - count % u64::from(threads);
+        let _done = self.heap.prepare_frames_by(rt, even as usize, threads);
     }
 
     /// Keeps the sizes of the live objects of a page, by its number from 1, until a word of the page is written or the
