@@ -1,4 +1,4 @@
-use Rattle.std.proofs.Common.{◌≡◌, ap, subst, sym, true, ◌∙◌}
+use Rattle.std.proofs.Common.{ap, subst, ◌∙◌}
 use Rattle.managed.specs.Scrubbing.{AreScrubbed, needs_no_scrub}
 use Rattle.managed.proofs.Corrected.{if_ok}
 use Rattle.model.specs.States.{HeapState}
