@@ -32,6 +32,12 @@ static double resident(void) {
     return (double)present * (double)sysconf(_SC_PAGESIZE) / 1048576;
 }
 
+/* The memory that malloc has given in MiB. The process has more: also of the program's code, as it is first run. */
+static double given(void) {
+    const struct mallinfo2 info = mallinfo2();
+    return (double)(info.uordblks + info.hblkhd) / 1048576;
+}
+
 static double now(void) {
     struct timespec at;
     clock_gettime(CLOCK_MONOTONIC, &at);
@@ -84,9 +90,9 @@ int main(void) {
     /* So that memory of a page goes back to the system as the heap gives it back; for small blocks malloc is told. */
     mallopt(M_MMAP_THRESHOLD, 65536);
     pauseless_usual(WORDS, FRAMES, &sizes);
-    const double before = resident(), began = now();
+    const double before = given(), began = now();
     DONE(pauseless_new(&heap, &sizes, &layout, 1));
-    const double took = now() - began, made = resident() - before;
+    const double took = now() - began, made = given() - before;
     printf("a new heap: %.1f ms, %.1f MiB\n", took, made);
     at_most("MiB of a new heap", made, 6);
     DONE(pauseless_set_growth(&heap, LEAST, GROWTH));
