@@ -1,5 +1,6 @@
 -- A page in use has a number, and only such a page is sparse.
-use Rattle.std.proofs.Common.{◌≡◌, ◌⊎◌, inl, inr, ℕ, ◌+◌, ◌-◌, ◌<◌, ◌≤◌, true, false, not, sym, ◌∙◌, ap, arith, refl, Option, Some, None}
+use Rattle.std.proofs.Common.{◌≡◌, ◌⊎◌, inl, inr, ℕ, ◌+◌, ◌-◌, ◌<◌, ◌≤◌, true, false, not}
+use Rattle.std.proofs.Common.{sym, ◌∙◌, ap, arith, refl, Option, Some, None}
 use Rattle.std.proofs.Math.Nat.{eq-or-lt_of_le}
 use Rattle.std.specs.Prelude.{◌*◌, ◌&&◌, if◌then◌else◌, nat_le}
 use Rattle.model.specs.declared.records.PageState.{PageState}

@@ -1,6 +1,7 @@
 //! Pages that are measured on threads.
 
-ghost use Rattle.std.specs.Prelude.{◌≡◌, ◌<◌, ◌≤◌, ◌*◌, ◌+◌, ◌^◌, ◌++◌, length, min, false, IfOk, IfSome, OnOk, ℕ};
+ghost use Rattle.std.specs.Prelude.{◌≡◌, ◌<◌, ◌≤◌, ◌*◌, ◌+◌, ◌^◌, ◌++◌, length, min, false, true, IfOk, IfSome, OnOk};
+ghost use Rattle.std.specs.Prelude.{ℕ};
 ghost use Rattle.model.specs.declared.limits.TheConstants.{MOST_PAGES};
 ghost use Rattle.choosing.specs.Choices.{AreOf, all_words, is_in_use, sparse_pages};
 ghost use Rattle.choosing.specs.Parts.{ArePartsOf, end_of};
@@ -123,6 +124,7 @@ fn join_parts(
 /// Returns the number of the last page in use; 0 if none is.
 fn last_in_use(heap: &Heap) -> u32
     ensures range { result ≤ MOST_PAGES }
+    ensures used { 0 < result → is_in_use heap.now result ≡ true }
     ensures after { (page : ℕ) → result < page → page ≤ heap.now.store.count → is_in_use heap.now page ≡ false }
 {
     let pages = heap.memory().page_count();

@@ -18,8 +18,8 @@ use std::alloc::Global;
 use std::thread::Threads;
 
 /// Does a complete collection as `Collect::collect` does, with the same `percent`, result and errors. Its mark may scan
-/// on `threads` threads, which also measure the pages, and copy the objects of those that are emptied; with fewer than
-/// two, or while few objects are grey, this thread scans alone.
+/// on `threads` threads, which also measure the pages, copy the objects of those that are emptied, and prepare and clear
+/// memory for that; with fewer than two, or while few objects are grey, this thread scans alone.
 pub fn collect_by<R: Threads + Sync>(
     rt: &R,
     heap: &mut ManagedHeap,

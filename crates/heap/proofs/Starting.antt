@@ -4,7 +4,7 @@ use Rattle.std.proofs.Common.{List, [], ◌∷◌, ◌++◌, length, map, drop, 
 use Rattle.std.proofs.Common.{refl, sym, ◌∙◌, ap, subst, arith}
 use Rattle.std.specs.List.{slice_get}
 use Rattle.std.proofs.lemmas.Bool.{true≢false}
-use Rattle.std.proofs.lemmas.List.{drop_more, drop_all, set-set, get_or-set_other}
+use Rattle.std.proofs.lemmas.List.{drop_more, drop_all, set-set, set_comm, get_or-set_other}
 use Rattle.std.proofs.lemmas.Option.{same_Some}
 use Rattle.layout.specs.declared.shape.Layout.{Layout}
 use Rattle.model.specs.Bits.{of_page, put_bit, with_bit}
@@ -143,20 +143,13 @@ swap_puts rows [] after (u ∷ us) s = absurd (true≢false s)
 swap_puts rows (t ∷ ts) after [] s = absurd (true≢false s)
 swap_puts rows (t ∷ ts) after (u ∷ us) s = swap_puts (set rows (t.page - 1) t.starts) ts after us s.1
 
-set_two : {X : Type 0} (xs : List X) (i j : ℕ) (a b : X) → i ≢ j → set (set xs i a) j b ≡ set (set xs j b) i a
-set_two [] i j a b d = refl
-set_two (x ∷ xs) zero zero a b d = absurd (d refl)
-set_two (x ∷ xs) zero (suc j) a b d = refl
-set_two (x ∷ xs) (suc i) zero a b d = refl
-set_two (x ∷ xs) (suc i) (suc j) a b d = ap (λ ys. x ∷ ys) (set_two xs i j a b (λ e. d (ap suc e)))
-
 -- one that is put before them
 put_first : (rows : List (List Bool)) (n : ℕ) (ts : List Target) (i : ℕ) (row : List Bool) → i < n
     → AreRisingFrom n ts → set (all_put rows ts) i row ≡ all_put (set rows i row) ts
 put_first rows n [] i row l up = refl
 put_first rows n (t ∷ ts) i row l up =
     put_first (set rows (t.page - 1) t.starts) t.page ts i row (omega (arith, l, up.0)) up.1
-    ∙ ap (λ us. all_put us ts) (set_two rows (t.page - 1) i t.starts row (λ e. absurd (omega (arith, l, up.0, e))))
+    ∙ ap (λ us. all_put us ts) (set_comm rows (t.page - 1) i t.starts row (λ e. absurd (omega (arith, l, up.0, e))))
 
 -- an element that is changed, or isn't there
 put_changed : (rows : List (List Bool)) (i : ℕ) (d : List Bool) (f : List Bool → List Bool)

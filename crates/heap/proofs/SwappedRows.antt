@@ -1,18 +1,10 @@
 -- Bitmaps of pages are swapped with those of owned pages, one page after the other.
 use Rattle.std.proofs.Common.{◌≡◌, ℕ, ◌+◌, ◌≤◌, ◌<◌, Bool, List, [], ◌∷◌, ◌++◌, length, take, drop, get_or, set}
 use Rattle.std.proofs.Common.{refl, sym, ◌∙◌, ap, arith, subst}
-use Rattle.std.proofs.lemmas.List.{drop_more, drop_all, take_all, take_more_set, drop-set-lt}
+use Rattle.std.proofs.lemmas.List.{drop_more, drop_all, take_all, take_more_set, drop-set-lt, append_assoc, append-nil}
 use Rattle.page.specs.declared.owned.OwnedPage.{OwnedPage}
 use Rattle.page.specs.declared.owned.Part.{Part}
 use Rattle.heap.specs.Owning.{SwappedRows, SwappedRowsOf}
-
-pub together : {X : Type 0} (xs : List X) (x : X) (ys : List X) → (xs ++ x ∷ []) ++ ys ≡ xs ++ x ∷ ys
-together [] x ys = refl
-together (z ∷ xs) x ys = ap (λ us. z ∷ us) (together xs x ys)
-
-pub append_none : {X : Type 0} (xs : List X) → xs ++ [] ≡ xs
-append_none [] = refl
-append_none (x ∷ xs) = ap (λ us. x ∷ us) (append_none xs)
 
 -- if the rest is swapped, all is
 abbrev pub RowsRest : ℕ → List (List Bool) → List (List Bool) → List OwnedPage → ℕ → List (List Bool)
@@ -49,7 +41,7 @@ rows_next first mark todo owned i m g m2 g2 at d q so_far within marks greys own
     (subst (λ us. SwappedRows (first + (i + 1)) m2 us (drop (i + 1) at) marked grey rest) greys
     (subst (λ xs. SwappedRows (first + (i + 1)) m2 g2 xs marked grey rest) back s))) in
     subst (SwappedRows first mark todo owned marked grey)
-    (sym (ap (λ xs. xs ++ rest) front ∙ together (take i at) q rest))
+    (sym (ap (λ xs. xs ++ rest) front ∙ append_assoc (take i at) (q ∷ []) rest))
     (so_far marked grey (q ∷ rest)
     (subst (λ xs. SwappedRows (first + i) m g xs marked grey (q ∷ rest)) (sym here) (own, moved)))
 
@@ -57,7 +49,7 @@ pub rows_last : (first : ℕ) (mark todo : List (List Bool)) (owned : List Owned
     (at : List OwnedPage) → RowsRest first mark todo owned i m g at → length at ≤ i
     → SwappedRows first mark todo owned m g at
 rows_last first mark todo owned i m g at all past =
-    subst (SwappedRows first mark todo owned m g) (append_none (take i at) ∙ take_all i at past)
+    subst (SwappedRows first mark todo owned m g) (append-nil (take i at) ∙ take_all i at past)
     (all m g [] (subst (λ xs. SwappedRows (first + i) m g xs m g []) (sym (drop_all i at past)) (refl, refl)))
 
 -- ---- parts
@@ -79,7 +71,7 @@ part_rows_next mark todo parts i m g m2 g2 at d q so_far within swapped same mar
     let back : drop (i + 1) (set at i q) ≡ drop (i + 1) at = drop-set-lt (i + 1) at i q (omega arith) in
     let here : drop i at ≡ p ∷ drop (i + 1) at = drop_more at i d within in
     subst (SwappedRowsOf mark todo parts marked grey)
-    (sym (ap (λ xs. xs ++ rest) front ∙ together (take i at) q rest))
+    (sym (ap (λ xs. xs ++ rest) front ∙ append_assoc (take i at) (q ∷ []) rest))
     (so_far marked grey (q ∷ rest)
     (subst (λ xs. SwappedRowsOf m g xs marked grey (q ∷ rest)) (sym here)
     (m2, g2, swapped, same, subst (λ xs. SwappedRowsOf m2 g2 xs marked grey rest) back s)))
@@ -88,5 +80,5 @@ pub part_rows_last : (mark todo : List (List Bool)) (parts : List Part) (i : ℕ
     (at : List Part) → PartRowsRest mark todo parts i m g at → length at ≤ i
     → SwappedRowsOf mark todo parts m g at
 part_rows_last mark todo parts i m g at all past =
-    subst (SwappedRowsOf mark todo parts m g) (append_none (take i at) ∙ take_all i at past)
+    subst (SwappedRowsOf mark todo parts m g) (append-nil (take i at) ∙ take_all i at past)
     (all m g [] (subst (λ xs. SwappedRowsOf m g xs m g []) (sym (drop_all i at past)) (refl, refl)))

@@ -1,10 +1,9 @@
 -- Bitmaps of pages are swapped with those of targets, one after another.
 use Rattle.std.proofs.Common.{◌≡◌, ℕ, ◌+◌, ◌-◌, ◌≤◌, ◌<◌, Bool, List, [], ◌∷◌, ◌++◌, length, take, drop, get_or, set}
 use Rattle.std.proofs.Common.{refl, sym, ◌∙◌, ap, arith, subst}
-use Rattle.std.proofs.lemmas.List.{drop_more, drop_all, take_all, take_more_set, drop-set-lt}
+use Rattle.std.proofs.lemmas.List.{drop_more, drop_all, take_all, take_more_set, drop-set-lt, append_assoc, append-nil}
 use Rattle.page.specs.declared.targets.Target.{Target}
 use Rattle.heap.specs.Starting.{SwapsStarts}
-use Rattle.heap.proofs.SwappedRows.{append_none, together}
 
 -- if the rest is swapped, all is
 abbrev pub StartsRest : List (List Bool) → List Target → ℕ → List (List Bool) → List Target → Type 0
@@ -23,7 +22,7 @@ starts_next starts targets i now then at d q so_far within put lent after rest s
     let back : drop (i + 1) (set at i q) ≡ drop (i + 1) at = drop-set-lt (i + 1) at i q (omega arith) in
     let here : drop i at ≡ t ∷ drop (i + 1) at = drop_more at i d within in
     subst (SwapsStarts starts targets after)
-    (sym (ap (λ xs. xs ++ rest) front ∙ together (take i at) q rest))
+    (sym (ap (λ xs. xs ++ rest) front ∙ append_assoc (take i at) (q ∷ []) rest))
     (so_far after (q ∷ rest)
     (subst (λ xs. SwapsStarts now xs after (q ∷ rest)) (sym here) (
       lent,
@@ -34,5 +33,5 @@ starts_next starts targets i now then at d q so_far within put lent after rest s
 pub starts_last : (starts : List (List Bool)) (targets : List Target) (i : ℕ) (now : List (List Bool))
     (at : List Target) → StartsRest starts targets i now at → length at ≤ i → SwapsStarts starts targets now at
 starts_last starts targets i now at all past =
-    subst (SwapsStarts starts targets now) (append_none (take i at) ∙ take_all i at past)
+    subst (SwapsStarts starts targets now) (append-nil (take i at) ∙ take_all i at past)
     (all now [] (subst (λ xs. SwapsStarts now xs now []) (sym (drop_all i at past)) refl))

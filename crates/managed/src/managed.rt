@@ -83,8 +83,8 @@ impl ManagedHeap {
     }
 
     /// Allocates memory for the words of the pages that `words` words fill, less what is kept, and keeps it, cleared,
-    /// for the next pages. Each thread does so for as many of them; those left over, and few of them, are left alone. It
-    /// does less if out of memory. The state of the heap stays.
+    /// for the next pages. Each of at most `threads` threads does so for as many pages; those left over are left alone,
+    /// and all are if they have fewer than 65,536 words. It does less if out of memory. The state of the heap stays.
     pub fn prepare_frames_by<R: Threads + Sync>(&mut self, rt: &R, words: u64, threads: u32)
         requires { 0 < threads }
         ensures { self.new ≡ self.old }
