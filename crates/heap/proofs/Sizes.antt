@@ -1,6 +1,6 @@
 -- The sizes of objects, by the words of their page.
-use Rattle.std.proofs.Common.{◌≡◌, ℕ, ◌+◌, ◌*◌, ◌%◌, ◌<◌, ◌≤◌, Bool, true, false, List, [], ◌∷◌, Option, Some, None}
-use Rattle.std.proofs.Common.{length, map, refl, sym, ◌∙◌, ap, ap₂, arith}
+use Rattle.std.proofs.Common.{◌≡◌, ℕ, ◌+◌, ◌*◌, ◌%◌, ◌<◌, ◌≤◌, ◌-◌, zero, suc, Bool, true, false, List, [], ◌∷◌}
+use Rattle.std.proofs.Common.{Option, Some, None, length, map, refl, sym, ◌∙◌, ap, ap₂, arith}
 use Rattle.std.specs.Prelude.{IfSome}
 use Rattle.std.specs.List.{slice_get}
 use Rattle.std.specs.Option.{option_and_then}
@@ -11,7 +11,10 @@ use Rattle.model.specs.Bits.{of_page}
 use Rattle.model.specs.Plans.{live_offsets, object_words, offsets_from, words_of}
 use Rattle.model.specs.States.{HeapState}
 use Rattle.model.specs.Stores.{words_at}
+use Rattle.model.specs.Holding.{AreRowsOf}
 use Rattle.model.proofs.Memory.{word_on_page}
+use Rattle.model.proofs.OfPages.{of_page_none, of_page_some}
+use Rattle.model.proofs.Tables.{row_short}
 use Rattle.page.specs.Kept as kept_specs
 use Rattle.page.specs.Kept.{objects_in, sizes_in}
 
@@ -46,6 +49,34 @@ kept_sized h n row ws s there is short kept =
     ∙ same_sizes h.store.words (kept_specs.size_in h.config.layouts ws) (λ o. object_words h (n * h.store.words + o))
     (λ o l. sym (size_in h n o ws l there)) 0 row (omega (arith, short))
     ∙ ap (λ r. map (λ o. object_words h (n * h.store.words + o)) (offsets_from 0 r)) is
+
+-- no page has more live bits than words
+live_short : (h : HeapState) (n : ℕ) → AreRowsOf h.store h.live → length (of_page h.live n) ≤ h.store.words
+live_short h zero are = omega arith
+live_short h (suc i) are = by_row (slice_get h.live (suc i - 1)) refl
+  where
+    by_row : (o : Option (List Bool)) → slice_get h.live (suc i - 1) ≡ o
+        → length (of_page h.live (suc i)) ≤ h.store.words
+    by_row None e = omega (arith, ap length (of_page_none h.live (suc i) (omega arith) e))
+    by_row (Some row) e = omega (
+      arith,
+      ap length (of_page_some h.live (suc i) row (omega arith) e),
+      row_short h.store h.live (suc i - 1) row are e,
+    )
+
+-- live objects of a page, with their sizes, are those in its words
+pub objects_there : (h : HeapState) (n : ℕ) (o : ObjectsState) → AreRowsOf h.store h.live
+    → o.live ≡ of_page h.live n
+    → o.sizes ≡ map (λ k. object_words h (n * h.store.words + k)) (live_offsets h n)
+    → (ws : List ℕ) → words_at h.store n ≡ Some ws → o ≡ objects_in h.config.layouts ws o.live
+unfolding live_offsets
+objects_there h n o are is sized ws there =
+    ap (λ ns. record { live = o.live; sizes = ns })
+    (sized
+    ∙ sym (same_sizes h.store.words (kept_specs.size_in h.config.layouts ws)
+    (λ k. object_words h (n * h.store.words + k)) (λ k l. sym (size_in h n k ws l there)) 0 (of_page h.live n)
+    (omega (arith, live_short h n are)))
+    ∙ ap (λ r. sizes_in h.config.layouts ws r) (sym is))
 
 -- whatever was kept
 pub if_kept : {X : Type 0} (h : HeapState) (n : ℕ) (row : List Bool) (o : Option X) (sizes : X → List ℕ)

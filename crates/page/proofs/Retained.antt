@@ -1,6 +1,9 @@
 -- Live objects that are kept with a frame.
-use Rattle.std.proofs.Common.{◌≡◌, ℕ, Bool, List, [], ◌∷◌, ◌++◌, ◌∙◌, Option, Some, None, ap, ap₂, subst}
+use Rattle.std.proofs.Common.{◌≡◌, ℕ, Bool, List, [], ◌∷◌, ◌++◌, ◌∙◌, Option, Some, None, refl, ap, ap₂, subst}
 use Rattle.std.specs.Prelude.{IfSome}
+use Rattle.std.specs.List.{slice_get}
+use Rattle.std.specs.Option.{option_and_then}
+use Rattle.model.specs.Stores.{StoreState, frame_in, page_at, words_at}
 use Rattle.layout.specs.declared.shape.Layout.{Layout}
 use Rattle.forward.specs.Objects.{ObjectsState}
 use Rattle.page.specs.Kept.{AreKept, IsKept, KeptState, objects_in}
@@ -13,6 +16,16 @@ last_kept words ks xs k e are = of_last xs (subst (AreKept words) e are)
     of_last : (xs : List KeptState) → AreKept words (xs ++ k ∷ []) → IsKept words k
     of_last [] are = are.0
     of_last (x ∷ xs) are = of_last xs are.1
+
+-- what holds of the words of a page holds of those of its frame
+pub words_there : (s : StoreState) (n f : ℕ) (P : List ℕ → Type 0) → frame_in (page_at s n) ≡ Some f
+    → ((ws : List ℕ) → words_at s n ≡ Some ws → P ws) → IfSome (slice_get s.frames f) P
+unfolding words_at
+words_there s n f P e holds = by_words (slice_get s.frames f) refl
+  where
+    by_words : (o : Option (List ℕ)) → slice_get s.frames f ≡ o → IfSome o P
+    by_words None q = tt
+    by_words (Some ws) q = holds ws (ap (option_and_then (slice_get s.frames)) e ∙ q)
 
 -- kept objects of a bitmap, by layouts, are those in the words
 pub objects_kept : (layouts : List Layout) (words now : List ℕ) (live : List Bool) (k : KeptState)

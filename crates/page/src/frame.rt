@@ -3,7 +3,7 @@
 ghost use Rattle.std.specs.Prelude.{◌≡◌, ◌+◌, ◌≤◌, ◌<◌, ◌^◌, length, slice_get, slice_set, slice_range, replicate};
 ghost use Rattle.std.specs.Prelude.{take, drop, [], IfOk, IfSome, nat_lt};
 ghost use Rattle.model.specs.declared.limits.TheConstants.{MOST_WORDS};
-ghost use Rattle.page.specs.Kept.{objects_in, sizes_in};
+ghost use Rattle.page.specs.Kept.{IsKept, objects_in, sizes_in};
 ghost use Rattle.std.specs.Borrow.{sem};
 ghost use Rattle.page.specs.Lending.{LendsRun};
 
@@ -105,11 +105,42 @@ impl Frame {
     {
         let alloc = *self.words.allocator();
         let objects = KeptObjects::new(alloc, layouts, &self.words, live)?;
+        self.keep(objects)
+    }
+
+    /// Keeps live objects, whose sizes these layouts give, until a word is written. Fails only if out of memory. The
+    /// words stay.
+    pub fn keep_objects(
+        &mut self,
+        layouts: &Layouts,
+        objects: LiveObjects,
+    ) -> Result<(), AllocError>
+        requires { objects ≡ objects_in layouts.now self.old objects.live }
+        ensures { self.new ≡ self.old }
+    {
+        let alloc = *self.words.allocator();
+        let objects = KeptObjects::of(alloc, layouts, objects)?;
+        self.keep(objects)
+    }
+
+    /// Keeps objects in place of those that were kept last. Fails only if out of memory. The words stay.
+    fn keep(&mut self, objects: KeptObjects) -> Result<(), AllocError>
+        requires { IsKept self.old objects }
+        ensures { self.new ≡ self.old }
+    {
         self.fresh = false;
         self.kept.clear();
         self.kept.push(objects)?;
         self.fresh = true;
         Ok(())
+    }
+
+    /// Frees objects that are kept. The words stay.
+    pub fn forget_objects(&mut self)
+        ensures { self.new ≡ self.old }
+    {
+        self.fresh = false;
+        self.kept.clear();
     }
 
     /// Returns the sizes of the objects at the set bits of a bitmap, by these layouts, if these were kept and no word

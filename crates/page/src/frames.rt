@@ -256,6 +256,34 @@ impl Frames {
         self.frames[number].keep_sizes(layouts, live)
     }
 
+    /// Keeps live objects with a frame, as `Frame::keep_objects`. Fails only if out of memory.
+    pub(crate) fn keep_objects(
+        &mut self,
+        number: usize,
+        layouts: &Layouts,
+        objects: LiveObjects,
+    ) -> Result<(), AllocError>
+        requires there { number < length self.old }
+        requires objects { IfSome (slice_get self.old number) (λ ws. objects ≡ objects_in layouts.now ws objects.live) }
+        ensures { self.new ≡ self.old }
+    {
+        let at = self.held_at;
+        put_back(&mut self.held, &mut self.frames, at);
+        self.held_at = self.frames.len();
+        self.frames[number].keep_objects(layouts, objects)
+    }
+
+    /// Frees objects that are kept with a frame.
+    pub(crate) fn forget_objects(&mut self, number: usize)
+        requires { number < length self.old }
+        ensures { self.new ≡ self.old }
+    {
+        let at = self.held_at;
+        put_back(&mut self.held, &mut self.frames, at);
+        self.held_at = self.frames.len();
+        self.frames[number].forget_objects();
+    }
+
     /// Takes the objects that are kept with a frame, as `Frame::take_objects`.
     pub(crate) fn take_objects(
         &mut self,

@@ -92,6 +92,17 @@ impl KeptObjects {
         let sizes = sizes_in(alloc, layouts, words, live)?;
         let live = live.copy(alloc)?;
         let objects = LiveObjects::new(alloc, live, sizes)?;
+        KeptObjects::of(alloc, layouts, objects)
+    }
+
+    /// Returns objects whose sizes were found by these layouts. Fails only if out of memory.
+    pub fn of(
+        alloc: Global,
+        layouts: &Layouts,
+        objects: LiveObjects,
+    ) -> Result<KeptObjects, AllocError>
+        ensures { IfOk result (λ k. k ≡ record { objects = objects; layouts = layouts.now }) }
+    {
         let layouts = Vec::from_slice(alloc, layouts.as_slice())?;
         Ok(KeptObjects { objects, layouts })
     }

@@ -22,6 +22,25 @@ impl Heap {
         }
     }
 
+    /// Keeps the live objects of a page, by its number from 1, until a word of the page is written. Fails only if out of
+    /// memory. Nothing else changes.
+    pub fn keep_objects(&mut self, page: u32, objects: LiveObjects) -> Result<(), AllocError>
+        requires live { objects.live ≡ of_page self.old.live page }
+        requires sizes { objects.sizes
+            ≡ map (λ o. object_words self.old (page * self.old.store.words + o)) (live_offsets self.old page) }
+        ensures { self.new ≡ self.old }
+    {
+        self.law();
+        self.store.keep_objects(page, &self.config.layouts, objects)
+    }
+
+    /// Frees the memory of live objects that are kept with a page, by its number from 1. Nothing else changes.
+    pub fn forget_objects(&mut self, page: u32)
+        ensures { self.new ≡ self.old }
+    {
+        self.store.forget_objects(page);
+    }
+
     /// Returns the sizes of the live objects of a page, by its number from 1, by rising offset, if these were kept and no
     /// word of the page was written since.
     pub fn sizes_on(&self, page: u32) -> Option<&Sizes>

@@ -28,6 +28,39 @@ impl Store {
         self.frames.keep_sizes(frame as usize, layouts, live)
     }
 
+    /// Keeps live objects with a page, whose sizes these layouts give, until a word of the page is written. If the page
+    /// has no memory, it does nothing. Fails only if out of memory. Nothing else changes.
+    pub fn keep_objects(
+        &mut self,
+        page: u32,
+        layouts: &Layouts,
+        objects: LiveObjects,
+    ) -> Result<(), AllocError>
+        requires { (words : List ℕ) → words_at self.old page ≡ Some words
+            → objects ≡ objects_in layouts.now words objects.live }
+        ensures { self.new ≡ self.old }
+    {
+        let Some(frame) = self.frame(page) else {
+            return Ok(());
+        };
+        if frame as usize >= self.frames.len() {
+            return Ok(());
+        }
+        self.frames.keep_objects(frame as usize, layouts, objects)
+    }
+
+    /// Frees objects that are kept with a page, if there are any. Nothing else changes.
+    pub fn forget_objects(&mut self, page: u32)
+        ensures { self.new ≡ self.old }
+    {
+        let Some(frame) = self.frame(page) else {
+            return;
+        };
+        if (frame as usize) < self.frames.len() {
+            self.frames.forget_objects(frame as usize);
+        }
+    }
+
     /// Returns the sizes of the objects of a page at the set bits of a bitmap, by these layouts, if these were kept and
     /// no word of the page was written since.
     #[tactic(auto, unfolding(model::specs::Stores::words_at))]
