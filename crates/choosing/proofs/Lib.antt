@@ -3,3 +3,4 @@ pub mod Packed
 pub mod Cuts
 pub mod Numbered
 pub mod Low
+pub mod Measuring

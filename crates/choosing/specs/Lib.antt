@@ -1,3 +1,4 @@
 pub mod Choices
+pub mod Measures
 pub mod Packings
 pub mod Parts

@@ -3,14 +3,13 @@
 ghost use Rattle.std.specs.Prelude.{◌≡◌, map, min, IfOk};
 ghost use Rattle.std.specs.List.{All};
 ghost use Rattle.model.specs.Protections.{free_count, unused_count};
-ghost use Rattle.choosing.specs.Choices.{ArePages, IsChoice, IsLongest, all_words, page_of, sparse_pages, words_on};
+ghost use Rattle.choosing.specs.Choices.{ArePages, IsChoice, IsLongest, all_words, page_of, words_on};
+ghost use Rattle.choosing.specs.Measures.{IsFound};
 
 use crate::packing::{first_packing, pack_page};
 use crate::sparse::{Found, sparse};
-use crate::threading::sparse_by;
 use heap::Heap;
 use std::alloc::{AllocError, Global};
-use std::thread::Threads;
 
 /// Returns for how many targets there is space: the lesser of the numbers of free frames and of unused pages.
 #[tactic(auto, unfolding(model::specs::Protections::free_count))]
@@ -70,46 +69,31 @@ fn cut(
     })
 }
 
-/// Chooses pages of those that were found to be sparse. Fails only if out of memory.
-fn choose_of(alloc: Global, heap: &Heap, percent: u32, found: Found) -> Result<Choice, AllocError>
-    requires pages { found.pages.items ≡ sparse_pages heap.now percent }
-    requires words { found.live_words ≡ all_words heap.now }
-    ensures pages { IfOk result (λ choice. IsChoice heap.now percent choice.pages.items) }
-    ensures words { IfOk result (λ choice. choice.words ≡ words_on heap.now choice.pages.items) }
-    ensures live { IfOk result (λ choice. choice.live_words ≡ all_words heap.now) }
+/// Measures all pages: finds the closed ones of which at most a percentage of the words is live, with their live words
+/// and their live objects, and the live words of all. It reads the header of each live object once. Fails only if out of
+/// memory for the list of pages: it leaves out objects for which there is none.
+pub fn measure(alloc: Global, heap: &Heap, percent: u32) -> Result<Found, AllocError>
+    ensures { IfOk result (IsFound heap.now percent) }
 {
-    let mut found = found;
-    found.pages.sort()?;
-    cut(alloc, heap, &found.pages, found.live_words)
+    sparse(alloc, heap, percent, true)
 }
 
-/// Chooses pages as `choose` does, by a percentage of 0 to 100, and returns with them how many words their live objects
-/// have, and those of all pages. Fails only if out of memory. It reads the header of each live object once for its
-/// size, and some once more for their places if their page is sparse.
-pub fn choose_measured(alloc: Global, heap: &Heap, percent: u32) -> Result<Choice, AllocError>
-    ensures pages { IfOk result (λ choice. IsChoice heap.now percent choice.pages.items) }
-    ensures words { IfOk result (λ choice. choice.words ≡ words_on heap.now choice.pages.items) }
-    ensures live { IfOk result (λ choice. choice.live_words ≡ all_words heap.now) }
-{
-    let found = sparse(alloc, heap, percent)?;
-    choose_of(alloc, heap, percent, found)
-}
-
-/// Chooses pages as `choose_measured` does, with the same result. Pages are measured on a number of threads, each for
-/// some of them, at most 1,024; with 0 or 1, or if a thread can't be started, on this one.
-pub fn choose_measured_by<R: Threads + Sync>(
-    rt: &R,
+/// Sorts the sparse pages that were found, by rising numbers of live words, and by rising page numbers if these are
+/// equal, and chooses the first ones for whose plan there is space. It reads headers of live objects only if their sizes
+/// aren't kept. Fails only if out of memory.
+pub fn choose_found(
     alloc: Global,
     heap: &Heap,
     percent: u32,
-    threads: u32,
+    found: &mut Found,
 ) -> Result<Choice, AllocError>
+    requires { IsFound heap.now percent found.old }
     ensures pages { IfOk result (λ choice. IsChoice heap.now percent choice.pages.items) }
     ensures words { IfOk result (λ choice. choice.words ≡ words_on heap.now choice.pages.items) }
     ensures live { IfOk result (λ choice. choice.live_words ≡ all_words heap.now) }
 {
-    let found = sparse_by(rt, alloc, heap, percent, threads)?;
-    choose_of(alloc, heap, percent, found)
+    found.pages.sort()?;
+    cut(alloc, heap, &found.pages, found.live_words)
 }
 
 /// Returns the relocation set: the closed pages of which at most a percentage of the words is live, by rising numbers
@@ -118,6 +102,7 @@ pub fn choose_measured_by<R: Threads + Sync>(
 pub fn choose(alloc: Global, heap: &Heap, percent: u32) -> Result<Vec<u32>, AllocError>
     ensures { IfOk result (λ pages. IsChoice heap.now percent pages.items) }
 {
-    let choice = choose_measured(alloc, heap, percent)?;
+    let mut found = sparse(alloc, heap, percent, false)?;
+    let choice = choose_found(alloc, heap, percent, &mut found)?;
     Ok(choice.pages)
 }

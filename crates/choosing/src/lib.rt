@@ -7,6 +7,7 @@ mod packing;
 mod sparse;
 mod threading;
 
-pub use choosing::{Choice, choose, choose_measured, choose_measured_by, room};
+pub use choosing::{Choice, choose, choose_found, measure, room};
 pub use packing::{Packing, first_packing, packed_page};
-pub use sparse::{Measure, measure_page};
+pub use sparse::{Found, Measure, PageObjects, measure_page};
+pub use threading::measure_by;

@@ -1,13 +1,19 @@
 //! Pages with few live words.
 
 ghost use Rattle.std.specs.Prelude.{◌≡◌, ◌<◌, ◌≤◌, ◌*◌, ◌+◌, length, min, IfOk, IfSome, OnOk};
-ghost use Rattle.std.specs.List.{sum_by};
+ghost use Rattle.std.specs.List.{All, sum_by};
 ghost use Rattle.model.specs.Plans.{offsets_from};
-ghost use Rattle.choosing.specs.Choices.{AreOf, all_words, is_closed_at, is_in_use, live_words, measured_if, size_on};
-ghost use Rattle.choosing.specs.Choices.{sparse_pages, with_sparse, words_in_use};
+ghost use Rattle.model.specs.States.{HeapState};
+ghost use Rattle.model.specs.declared.limits.TheConstants.{MOST_WORDS};
+ghost use Rattle.relocate.specs.Drafts.{AreLiveOn};
+ghost use Rattle.choosing.specs.Choices.{AreOf, is_closed_at, is_in_use, live_words, measured_if, size_on};
+ghost use Rattle.choosing.specs.Choices.{with_sparse, words_in_use};
+ghost use Rattle.choosing.specs.Measures.{IsFound, IsOnPage};
 
+use forward::LiveObjects;
 use heap::{Heap, Row};
 use model::PageState;
+use relocate::measured_objects;
 use std::alloc::{AllocError, Global};
 
 /// Returns how many words the live objects of a page have, by its number from 1 and its live bitmap.
@@ -108,13 +114,117 @@ pub fn measure_page(heap: &Heap, percent: u32, page: u32) -> Measure
     }
 }
 
+/// A page, and its live objects.
+#[derive(Drop)]
+pub struct PageObjects {
+    /// The number of the page, from 1.
+    pub page: u32,
+    /// The live objects.
+    pub objects: LiveObjects,
+}
+
 /// The sparse pages of a heap, and its live words.
 #[derive(Drop)]
-pub(crate) struct Found {
+pub struct Found {
     /// The closed pages of which few enough words are live, by their numbers, each with its live words before it.
     pub pages: Vec<(u64, u32)>,
     /// How many words the live objects of all pages have that have memory and aren't protected.
     pub live_words: u64,
+    /// Such pages with their live objects: those for which memory was there.
+    pub objects: Vec<PageObjects>,
+}
+
+/// Returns how many words live objects have together.
+fn words_of(objects: &LiveObjects) -> u64
+    ensures value { result ≡ sum_by (λ n. n) objects.now.sizes }
+    ensures few { length objects.now.sizes ≤ MOST_WORDS }
+{
+    let sizes = objects.sizes();
+    u64::from(sizes.before(sizes.len()))
+}
+
+/// How many words the live objects of a page have, and these objects, if memory was there for them.
+#[derive(Drop)]
+struct LiveWords {
+    words: u64,
+    objects: Option<LiveObjects>,
+}
+
+/// Returns how many words the live objects of a page have, by its number from 1, with these objects.
+fn live_objects(alloc: Global, heap: &Heap, page: u32) -> LiveWords
+    requires low { 0 < page }
+    requires high { page ≤ heap.now.store.count }
+    ensures words { result.words ≡ live_words heap.now page }
+    ensures range { result.words ≤ 131071 * 32768 }
+    ensures objects { IfSome result.objects (AreLiveOn heap.now page) }
+{
+    heap.law();
+    match measured_objects(alloc, heap, page) {
+        Ok(objects) => {
+            let words = words_of(&objects);
+            LiveWords {
+                words,
+                objects: Some(objects),
+            }
+        }
+        Err(_) => LiveWords {
+            words: live_words(heap, page),
+            objects: None,
+        },
+    }
+}
+
+/// What was measured of a page, with its live objects, if it is sparse and memory was there for them.
+#[derive(Drop)]
+struct PageMeasure {
+    measure: Measure,
+    objects: Option<PageObjects>,
+}
+
+/// Returns a page with its live objects, if there are any, and it is sparse.
+fn if_kept(
+    page: u32,
+    sparse: Option<(u64, u32)>,
+    objects: Option<LiveObjects>,
+) -> Option<PageObjects>
+    ensures { (h : HeapState) → IfSome objects (AreLiveOn h page) → IfSome result (IsOnPage h) }
+{
+    if sparse.is_none() {
+        return None;
+    }
+    let objects = objects?;
+    Some(PageObjects { page, objects })
+}
+
+/// Measures a page, as `measure_page` does; with its live objects, if they are asked for.
+fn measure_objects(
+    alloc: Global,
+    heap: &Heap,
+    percent: u32,
+    with_objects: bool,
+    page: u32,
+) -> PageMeasure
+    ensures live { result.measure.live ≡ words_in_use heap.now page }
+    ensures sparse { result.measure.sparse ≡ measured_if heap.now percent page }
+    ensures range { result.measure.live ≤ 131071 * 32768 }
+    ensures objects { IfSome result.objects (IsOnPage heap.now) }
+{
+    heap.law();
+    if !with_objects || !is_in_use(heap, page) {
+        return PageMeasure {
+            measure: measure_page(heap, percent, page),
+            objects: None,
+        };
+    }
+    let live = live_objects(alloc, heap, page);
+    let sparse = if_sparse(heap, percent, page, live.words);
+    PageMeasure {
+        measure: Measure {
+            live: live.words,
+            sparse,
+        },
+        objects: if_kept(page, sparse, live.objects),
+    }
 }
 
 /// Adds a page to a list, if it is sparse. Fails only if out of memory.
@@ -127,33 +237,56 @@ fn add_sparse(pages: &mut Vec<(u64, u32)>, sparse: Option<(u64, u32)>) -> Result
     Ok(())
 }
 
-/// Measures the pages after the first `first` ones, up to the page of number `end`. Fails only if out of memory.
+/// Adds the live objects of a page to a list, if there are any and memory is there for it.
+fn add_objects(list: &mut Vec<PageObjects>, objects: Option<PageObjects>)
+    ensures { (h : HeapState) → All (IsOnPage h) list.old.items → IfSome objects (IsOnPage h)
+        → All (IsOnPage h) list.new.items }
+{
+    if let Some(objects) = objects {
+        let _ = list.push(objects);
+    }
+}
+
+/// Measures the pages after the first `first` ones, up to the page of number `end`, and finds the live objects of sparse
+/// ones, if they are asked for. Fails only if out of memory.
 pub(crate) fn sparse_in(
     alloc: Global,
     heap: &Heap,
     percent: u32,
+    with_objects: bool,
     first: u32,
     end: u32,
 ) -> Result<Found, AllocError>
     requires { first ≤ end }
-    ensures { IfOk result (λ found. AreOf heap.now percent first end found.pages.items found.live_words) }
+    ensures found { IfOk result (λ found. AreOf heap.now percent first end found.pages.items found.live_words) }
+    ensures objects { IfOk result (λ found. All (IsOnPage heap.now) found.objects.items) }
 {
     let mut pages = Vec::new(alloc);
     let mut live_words = 0u64;
+    let mut list = Vec::new(alloc);
     for index in first..end {
-        let measure = measure_page(heap, percent, index + 1);
-        live_words += measure.live;
-        add_sparse(&mut pages, measure.sparse)?;
+        let found = measure_objects(alloc, heap, percent, with_objects, index + 1);
+        live_words += found.measure.live;
+        add_sparse(&mut pages, found.measure.sparse)?;
+        add_objects(&mut list, found.objects);
     }
-    Ok(Found { pages, live_words })
+    Ok(Found {
+        pages,
+        live_words,
+        objects: list,
+    })
 }
 
-/// Measures all pages. Fails only if out of memory.
-pub(crate) fn sparse(alloc: Global, heap: &Heap, percent: u32) -> Result<Found, AllocError>
-    ensures pages { IfOk result (λ found. found.pages.items ≡ sparse_pages heap.now percent) }
-    ensures words { IfOk result (λ found. found.live_words ≡ all_words heap.now) }
+/// Measures all pages, as `sparse_in` does. Fails only if out of memory.
+pub(crate) fn sparse(
+    alloc: Global,
+    heap: &Heap,
+    percent: u32,
+    with_objects: bool,
+) -> Result<Found, AllocError>
+    ensures found { IfOk result (IsFound heap.now percent) }
 {
     let count = heap.memory().page_count();
-    let found = sparse_in(alloc, heap, percent, 0, count)?;
+    let found = sparse_in(alloc, heap, percent, with_objects, 0, count)?;
     Ok(found)
 }

@@ -2,11 +2,14 @@
 
 ghost use Rattle.std.specs.Prelude.{◌≡◌, ◌<◌, ◌≤◌, ◌*◌, ◌+◌, ◌^◌, ◌++◌, length, min, false, true, IfOk, IfSome, OnOk};
 ghost use Rattle.std.specs.Prelude.{ℕ};
+ghost use Rattle.std.specs.List.{All};
+ghost use Rattle.model.specs.States.{HeapState};
 ghost use Rattle.model.specs.declared.limits.TheConstants.{MOST_PAGES};
-ghost use Rattle.choosing.specs.Choices.{AreOf, all_words, is_in_use, sparse_pages};
+ghost use Rattle.choosing.specs.Choices.{AreOf, is_in_use};
+ghost use Rattle.choosing.specs.Measures.{IfMeasured, IsFound, IsOnPage};
 ghost use Rattle.choosing.specs.Parts.{ArePartsOf, end_of};
 
-use crate::sparse::{Found, is_in_use, sparse, sparse_in};
+use crate::sparse::{Found, PageObjects, is_in_use, sparse, sparse_in};
 use heap::Heap;
 use std::alloc::{AllocError, Global};
 use std::thread::{Threads, map_indices};
@@ -23,9 +26,10 @@ fn end_of(pages: u32, size: u32, parts: usize) -> u32
 /// Measures the pages after the first `first` ones, up to the page of number `end`. Returns `None` if out of memory.
 fn measure_part(heap: &Heap, percent: u32, first: u32, end: u32) -> Option<Found>
     requires { first ≤ end }
-    ensures { IfSome result (λ found. AreOf heap.now percent first end found.pages.items found.live_words) }
+    ensures found { IfSome result (λ found. AreOf heap.now percent first end found.pages.items found.live_words) }
+    ensures objects { IfSome result (λ found. All (IsOnPage heap.now) found.objects.items) }
 {
-    match sparse_in(heap.allocator(), heap, percent, first, end) {
+    match sparse_in(heap.allocator(), heap, percent, true, first, end) {
         Ok(found) => Some(found),
         Err(_) => None,
     }
@@ -42,12 +46,14 @@ fn measure_parts<R: Threads + Sync>(
 ) -> Result<Vec<Option<Found>, Global>, AllocError>
     ensures many { IfOk result (λ found. length found.items ≡ parts) }
     ensures parts { IfOk result (λ found. ArePartsOf heap.now percent size found.items) }
+    ensures objects { IfOk result (λ found. All (IfMeasured heap.now) found.items) }
 {
     let pages = heap.memory().page_count();
     let measure = |part: usize| -> Option<Found>
         requires few { part + 1 < 2 ^ 32 }
-        ensures { IfSome result (λ found. AreOf heap.entry.now percent (end_of pages size part)
+        ensures found { IfSome result (λ found. AreOf heap.entry.now percent (end_of pages size part)
             (end_of pages size (part + 1)) found.pages.items found.live_words) }
+        ensures objects { IfSome result (λ found. All (IsOnPage heap.entry.now) found.objects.items) }
     {
         measure_part(
             heap,
@@ -90,7 +96,7 @@ fn add_next(
     match part {
         Some(part) => add_part(found, part),
         None => {
-            let part = sparse_in(alloc, heap, percent, first, end)?;
+            let part = sparse_in(alloc, heap, percent, false, first, end)?;
             add_part(found, &part)
         }
     }
@@ -110,7 +116,7 @@ fn join_parts(
     ensures { IfOk result (λ found. AreOf heap.now percent 0 heap.now.store.count found.pages.items found.live_words) }
 {
     let pages = heap.memory().page_count();
-    let mut found = sparse_in(alloc, heap, percent, 0, 0)?;
+    let mut found = sparse_in(alloc, heap, percent, false, 0, 0)?;
     for index in 0..parts.len() {
         let first = end_of(pages, size, index);
         let end = end_of(pages, size, index + 1);
@@ -136,23 +142,42 @@ fn last_in_use(heap: &Heap) -> u32
     0
 }
 
-/// Measures all pages as `sparse` does, on a number of threads, each for some of the pages up to the last one in use;
-/// the others have no live words. Fails only if out of memory.
-pub(crate) fn sparse_by<R: Threads + Sync>(
+/// Returns the live objects that were found in parts. It loses some of them if out of memory.
+fn take_objects(
+    alloc: Global,
+    parts: Vec<Option<Found>, Global>,
+) -> Vec<PageObjects>
+    ensures { (h : HeapState) → All (IfMeasured h) parts.items → All (IsOnPage h) result.items }
+{
+    let mut parts = parts;
+    let mut list = Vec::new(alloc);
+    while let Some(part) = parts.pop() {
+        if let Some(found) = part {
+            let mut found = found;
+            let _ = list.append(&mut found.objects);
+        }
+    }
+    list
+}
+
+/// Measures all pages as `measure` does, with the same pages and words, on a number of threads, each for some of the
+/// pages up to the last one in use, at most 1,024; the others have no live words. With 0 or 1 thread, or if one can't be
+/// started, it does so on this one. Fails only if out of memory.
+pub fn measure_by<R: Threads + Sync>(
     rt: &R,
     alloc: Global,
     heap: &Heap,
     percent: u32,
     threads: u32,
 ) -> Result<Found, AllocError>
-    ensures pages { IfOk result (λ found. found.pages.items ≡ sparse_pages heap.now percent) }
-    ensures words { IfOk result (λ found. found.live_words ≡ all_words heap.now) }
+    ensures { IfOk result (IsFound heap.now percent) }
 {
     let threads = threads.clamp(1, 1024);
     let size = last_in_use(heap) / threads + 1;
     let Ok(parts) = measure_parts(rt, heap, percent, size, threads) else {
-        return sparse(alloc, heap, percent);
+        return sparse(alloc, heap, percent, false);
     };
-    let found = join_parts(alloc, heap, percent, size, &parts)?;
+    let mut found = join_parts(alloc, heap, percent, size, &parts)?;
+    found.objects = take_objects(alloc, parts);
     Ok(found)
 }

@@ -48,9 +48,10 @@ fn objects_on(alloc: Global, heap: &Heap, page: u32, row: &Row) -> Result<LiveOb
     Ok(objects)
 }
 
-/// Returns the live objects of a page, by its number from 1, as `objects_on`. A page without a record has none.
+/// Returns the live objects of a page, by its number from 1, with the sizes that their headers say. A page without a
+/// record has none. Fails only if out of memory.
 #[tactic(auto, unfolding(model::specs::Plans::live_offsets))]
-fn measured_objects(alloc: Global, heap: &Heap, page: u32) -> Result<LiveObjects, AllocError>
+pub fn measured_objects(alloc: Global, heap: &Heap, page: u32) -> Result<LiveObjects, AllocError>
     requires low { 0 < page }
     requires high { page ≤ heap.now.store.count }
     ensures { IfOk result (AreLiveOn heap.now page) }

@@ -13,6 +13,7 @@ mod targets;
 mod whole;
 
 pub use copying::{copy, copy_for, follow};
+pub use drafting::measured_objects;
 pub use many::copy_pages_by;
 pub use page::PieceGate;
 pub use protecting::protect;

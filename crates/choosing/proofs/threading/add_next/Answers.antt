@@ -16,4 +16,4 @@ returns-in-Some c =
 pub returns-in_ok-part-in-None : goal.returns-in_ok-part-in-None
 returns-in_ok-part-in-None c =
     joined c.args.heap.now c.args.percent c.args.first c.args.end _ _ _ _ _ _ c.add_part-in-None.result c.requires.found
-    c.in_ok-part-in-None.ensures c.add_part-in-None.ensures.pages c.add_part-in-None.ensures.words
+    c.in_ok-part-in-None.ensures.found c.add_part-in-None.ensures.pages c.add_part-in-None.ensures.words

@@ -3,7 +3,7 @@ use Rattle.std.specs.List.{All}
 use Rattle.std.proofs.lemmas.List.Sorted.{All-permutation}
 use Rattle.choosing.specs.Choices.{ArePages}
 use Rattle.choosing.proofs.Sums.{all_pages}
-use Rattle.choosing.proofs.choosing.choose_of.Goals as goal
+use Rattle.choosing.proofs.choosing.choose_found.Goals as goal
 
 pub cut-requires : goal.cut-requires
 cut-requires c =
