@@ -5,6 +5,7 @@ ghost use Rattle.heap.specs.Owning.{AreBlankPages};
 ghost use Rattle.waves.specs.Parts.{AreFew, AreJoined, AreNew, all_scanned_in};
 
 use page::{OwnedPage, Part};
+use refword::Word;
 use std::alloc::{AllocError, Global};
 
 /// How many notes a part has space for: an object with more references than are left stays grey until the next wave.
@@ -22,29 +23,74 @@ fn blank_pages(alloc: Global, count: usize) -> Result<Vec<OwnedPage, Global>, Al
     Ok(pages)
 }
 
-/// Returns a part of blank pages, from that of a record's index on, with space for a number of notes. Fails only if out
-/// of memory.
-fn blank_part(alloc: Global, first: usize, count: usize, notes: usize) -> Result<Part, AllocError>
+/// Memory for notes: of earlier parts, or new.
+#[derive(Drop)]
+pub(crate) struct Notes {
+    /// For how many notes there is space in new memory.
+    space: usize,
+    /// Memory of earlier parts.
+    spare: Vec<Vec<Word, Global>, Global>,
+}
+
+impl Notes {
+    /// Returns no memory yet; what is new has space for so many notes.
+    pub fn new(alloc: Global, space: usize) -> Notes {
+        Notes {
+            space,
+            spare: Vec::new(alloc),
+        }
+    }
+
+    /// Returns an empty list with space for notes. Fails only if out of memory.
+    fn list(&mut self, alloc: Global) -> Result<Vec<Word, Global>, AllocError>
+        ensures { IfOk result (λ v. v.items ≡ []) }
+    {
+        match self.spare.pop() {
+            None => Vec::with_capacity(alloc, self.space),
+            Some(list) => {
+                let mut list = list;
+                list.clear();
+                Ok(list)
+            }
+        }
+    }
+
+    /// Takes the lists of parts back, whose notes are lost.
+    pub fn take_back(&mut self, parts: Vec<Part, Global>) {
+        for part in parts {
+            let _ = self.spare.push(part.sent);
+        }
+    }
+}
+
+/// Returns a part of blank pages, from that of a record's index on, with space for notes. Fails only if out of memory.
+fn blank_part(
+    alloc: Global,
+    first: usize,
+    count: usize,
+    notes: &mut Notes,
+) -> Result<Part, AllocError>
     ensures first { IfOk result (λ p. p.first ≡ first) }
     ensures blank { IfOk result (λ p. AreBlankPages p.pages.items) }
     ensures count { IfOk result (λ p. length p.pages.items ≡ count) }
     ensures sent { IfOk result (λ p. p.sent.items ≡ []) }
 {
+    let sent = notes.list(alloc)?;
     Ok(Part {
         first,
         pages: blank_pages(alloc, count)?,
-        sent: Vec::with_capacity(alloc, notes)?,
+        sent,
         scanned: 0,
     })
 }
 
 /// Returns `count` parts of blank pages, at least one, which take the place of the first `used` ones; each has space
-/// for a number of notes. Fails only if out of memory.
+/// for notes. Fails only if out of memory.
 pub(crate) fn new_parts(
     alloc: Global,
     count: usize,
     used: usize,
-    notes: usize,
+    notes: &mut Notes,
 ) -> Result<Vec<Part, Global>, AllocError>
     ensures new { IfOk result (λ v. AreNew used v.items) }
     ensures joined { IfOk result (λ v. AreJoined used 0 v.items) }

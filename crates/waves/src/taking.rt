@@ -4,7 +4,7 @@ ghost use Rattle.std.specs.Prelude.{◌≡◌, ◌≤◌, ◌∷◌, [], get_or,
 ghost use Rattle.part_scans.specs.Scans.{all_sent};
 ghost use Rattle.waves.specs.Parts.{AreBare, AreSent, sent_to};
 
-use crate::parting::new_parts;
+use crate::parting::{Notes, new_parts};
 use heap::{Heap, Rows};
 use page::Part;
 use refword::Word;
@@ -91,7 +91,8 @@ fn take_by<R: Threads + Sync>(rt: &R, heap: &mut Heap, senders: &[Part], used: u
     if !are_bare(heap, used) {
         return false;
     }
-    let Ok(parts) = new_parts(heap.allocator(), senders.len(), used, 0) else {
+    let mut notes = Notes::new(heap.allocator(), 0);
+    let Ok(parts) = new_parts(heap.allocator(), senders.len(), used, &mut notes) else {
         return false;
     };
     let mut parts = parts;

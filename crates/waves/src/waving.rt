@@ -7,7 +7,7 @@ ghost use Rattle.model.specs.Scans.{next_todo, next_drain};
 ghost use Rattle.drains.specs.Drains.{IsReady, IsDrained, ObjectsDone, NoneTodo, KeepsPlain};
 
 use crate::listing::{Extent, are_spread, extent_of, list_grey};
-use crate::parting::{NOTES, are_balanced, new_parts, total};
+use crate::parting::{NOTES, Notes, are_balanced, new_parts, total};
 use crate::taking::take_sent;
 use drains::{Portion, is_alone, mark_globals, scan_listed, scan_objects};
 use heap::Heap;
@@ -33,6 +33,8 @@ struct Course {
     threads: u32,
     /// The grey objects, if they are few.
     grey: Vec<Addr, Global>,
+    /// The notes of threads.
+    notes: Notes,
     /// How many objects were grey before the last round, or 0 if no round was last.
     before: u64,
     /// How many objects are scanned in the next portion.
@@ -47,6 +49,7 @@ impl Course {
         Course {
             threads,
             grey: Vec::new(alloc),
+            notes: Notes::new(alloc, NOTES),
             before: 0,
             portion: PORTION,
             is_uneven: false,
@@ -124,7 +127,8 @@ fn wave<R: Threads + Sync>(
     ensures few { result ≤ most }
 {
     let used = used_records(heap, extent);
-    let Ok(parts) = new_parts(heap.allocator(), course.threads as usize, used, NOTES) else {
+    let count = course.threads as usize;
+    let Ok(parts) = new_parts(heap.allocator(), count, used, &mut course.notes) else {
         return 0;
     };
     let mut parts = parts;
@@ -133,6 +137,7 @@ fn wave<R: Threads + Sync>(
     }
     let found = scan_parts(rt, heap, worker, most, &mut parts, used);
     course.go_on(!are_balanced(&parts));
+    course.notes.take_back(parts);
     found
 }
 
