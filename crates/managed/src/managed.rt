@@ -4,9 +4,11 @@ ghost use Rattle.std.specs.Prelude.{◌≡◌, ◌<◌};
 ghost use Rattle.model.specs.Refusing.{DoesStep};
 ghost use Rattle.model.specs.Outcome.{outcome};
 ghost use Rattle.refinement.specs.Standing.{KeepsStanding};
+ghost use Rattle.relocate.specs.Drafts.{AreLiveOn};
 ghost use Rattle.managed.specs.Managing.{MakesHeap, Promises};
 
 use cycle::Stepping;
+use forward::LiveObjects;
 use heap::{Config, Heap, NewFault};
 use model::{Actor, Reply, Step};
 use std::alloc::{AllocError, Global};
@@ -106,6 +108,23 @@ impl ManagedHeap {
         ensures { self.new ≡ self.old }
     {
         self.heap.keep_sizes(page)
+    }
+
+    /// Keeps the live objects of a page, by its number from 1, as `keep_sizes` keeps their sizes, but needs no headers.
+    /// Fails only if out of memory. The state of the heap stays.
+    pub fn keep_objects(&mut self, page: u32, objects: LiveObjects) -> Result<(), AllocError>
+        requires { AreLiveOn self.old page objects }
+        ensures { self.new ≡ self.old }
+    {
+        self.heap.keep_objects(page, objects)
+    }
+
+    /// Frees the memory of live objects, or of their sizes, that are kept with a page, by its number from 1. The state of
+    /// the heap stays.
+    pub fn forget_objects(&mut self, page: u32)
+        ensures { self.new ≡ self.old }
+    {
+        self.heap.forget_objects(page);
     }
 
     /// Releases the memory of free frames to the allocator, except that of `most` frames. Until then, memory of
