@@ -143,10 +143,7 @@ fn last_in_use(heap: &Heap) -> u32
 }
 
 /// Returns the live objects that were found in parts. It loses some of them if out of memory.
-fn take_objects(
-    alloc: Global,
-    parts: Vec<Option<Found>, Global>,
-) -> Vec<PageObjects>
+fn take_objects(alloc: Global, parts: Vec<Option<Found>, Global>) -> Vec<PageObjects>
     ensures { (h : HeapState) → All (IfMeasured h) parts.items → All (IsOnPage h) result.items }
 {
     let mut parts = parts;
