@@ -1,8 +1,8 @@
 #!/usr/bin/env python3
 """Runs a command, and tells how many seconds of a processor each crate took in it: tests/measured.py TABLE COMMAND..
 
-The table is written to the file TABLE: for each crate the seconds for its proof, the proof of its tests, and its
-edits. They are those of the prover's processes below the command, which are looked at twice a second: what a process
+The table is written to the file TABLE, each minute and at the end: for each crate the seconds for its proof, the proof
+of its tests, and its edits. They are those of the prover's processes below the command, which are looked at twice a second: what a process
 took since it was last looked at is lost. Where there is no /proc, the table says so.
 """
 
@@ -13,6 +13,7 @@ import threading
 from collections import defaultdict
 
 PAUSE = 0.5
+LOOKS_A_MINUTE = 120
 TICKS = os.sysconf("SC_CLK_TCK")
 KINDS = ("proof", "tests", "edits")
 
@@ -79,12 +80,20 @@ def table_of(sums):
 def main(table, *command):
     started = subprocess.Popen(command)
     watch, ended = Watch(started.pid), threading.Event()
+    is_told = os.path.exists("/proc/self/stat")
+
+    def keep():
+        with open(table, "w", encoding="utf-8") as file:
+            file.write(table_of(watch.seconds()) if is_told else "No seconds are told, as there is no /proc here.\n")
 
     def look_on():
+        looks = 0
         while not ended.wait(PAUSE):
             watch.look()
+            looks += 1
+            if looks % LOOKS_A_MINUTE == 0:
+                keep()
 
-    is_told = os.path.exists("/proc/self/stat")
     looking = threading.Thread(target=look_on)
     if is_told:
         looking.start()
@@ -92,8 +101,7 @@ def main(table, *command):
     ended.set()
     if is_told:
         looking.join()
-    with open(table, "w", encoding="utf-8") as file:
-        file.write(table_of(watch.seconds()) if is_told else "No seconds are told, as there is no /proc here.\n")
+    keep()
     return status
 
 
