@@ -19,7 +19,7 @@
 #define PAUSELESS_H
 
 /* The version of the library, by https://semver.org. */
-#define PAUSELESS_VERSION "5.2.0"
+#define PAUSELESS_VERSION "5.3.0"
 
 #include <stdbool.h>
 #include <stddef.h>

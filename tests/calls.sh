@@ -34,6 +34,7 @@ for named in \
     test_heap:protections::a_page_is_protected \
     test_heap:protections::pages_of_a_long_list \
     test_heap:choices::threads_choose_the_same \
+    test_heap:kept::objects_are_kept_until_they_are_freed \
     test_heap:waving::four_threads_mark_as_one \
     test_library:protections::four_pages_are_protected \
     test_library:protections::four_pages_of_a_managed_heap \

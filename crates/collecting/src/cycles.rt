@@ -1,6 +1,7 @@
 //! A mark, and the pages that are emptied after it.
 
 ghost use Rattle.std.specs.Prelude.{◌≡◌, IfOk, true};
+ghost use Rattle.choosing.specs.Choices.{IsChoice, all_words, words_on};
 ghost use Rattle.managed.specs.Scrubbing.{AreScrubbed, needs_no_scrub};
 ghost use Rattle.collecting.specs.Collections.{ChoosesAndEmpties, Collects, EndsChoice, EndsChosen, EndsCollecting};
 ghost use Rattle.collecting.specs.Collections.{EndsDueMark, MarksAndEmpties, SettlesAndMarks};
@@ -8,10 +9,11 @@ ghost use Rattle.collecting.specs.Collections.{EndsDueMark, MarksAndEmpties, Set
 use crate::collecting::Collected;
 use crate::executor::Executor;
 use crate::leftovers::settle;
+use crate::measured::choose_kept;
 use choosing::Choice;
 use managed::ManagedHeap;
 use model::Refusal;
-use std::alloc::Global;
+use std::alloc::{AllocError, Global};
 
 /// Runs the mark that is due: the rest of the one that runs, else a complete one.
 fn mark_due<M: Executor>(heap: &mut ManagedHeap, by: &M) -> Result<u64, Refusal>
@@ -83,6 +85,23 @@ fn empty_choice<M: Executor>(
     }
 }
 
+/// Measures pages, and chooses some of them, whose live objects are kept with them. The state of the heap stays.
+fn choose<M: Executor>(
+    heap: &mut ManagedHeap,
+    alloc: Global,
+    percent: u32,
+    by: &M,
+) -> Result<Choice, AllocError>
+    requires { M.may_mark by.now }
+    ensures pages { IfOk result (λ choice. IsChoice heap.old percent choice.pages.items) }
+    ensures words { IfOk result (λ choice. choice.words ≡ words_on heap.old choice.pages.items) }
+    ensures live { IfOk result (λ choice. choice.live_words ≡ all_words heap.old) }
+    ensures stays { heap.new ≡ heap.old }
+{
+    let found = by.measure(alloc, heap.heap(), percent)?;
+    choose_kept(alloc, heap, percent, found)
+}
+
 /// Chooses pages and empties them, after a mark that found `live` objects.
 fn empty_after<M: Executor>(
     heap: &mut ManagedHeap,
@@ -95,7 +114,7 @@ fn empty_after<M: Executor>(
     ensures ends { ChoosesAndEmpties percent live heap.old result heap.new }
     ensures scrubbed { needs_no_scrub heap.old.phase ≡ true → IfOk result (λ collected. AreScrubbed heap.new) }
 {
-    match by.choose(alloc, heap.heap(), percent) {
+    match choose(heap, alloc, percent, by) {
         Ok(choice) => empty_choice(heap, live, choice, by),
         Err(_) => Err(Refusal::Memory),
     }

@@ -2,13 +2,13 @@
 
 ghost use Rattle.std.specs.Prelude.{◌≡◌, ⊤, IfOk};
 ghost use Rattle.std.specs.Thread.{IsSync};
-ghost use Rattle.choosing.specs.Choices.{IsChoice, all_words, words_on};
+ghost use Rattle.choosing.specs.Measures.{IsFound};
 ghost use Rattle.managed.specs.Collecting.{EndsMark, EndsRest};
 ghost use Rattle.managed.specs.Emptying.{EndsEmptying};
 ghost use Rattle.managed.specs.Scrubbing.{AreScrubbed};
 ghost use Rattle.collecting.specs.Collections.{WORKER, Collects};
 
-use choosing::{Choice, choose_measured, choose_measured_by};
+use choosing::{Found, measure, measure_by};
 use heap::Heap;
 use managed::ManagedHeap;
 use model::Refusal;
@@ -32,12 +32,10 @@ pub(crate) trait Executor {
         ensures goes { Collects heap.old heap.new }
         ensures ends { EndsRest WORKER heap.old result heap.new };
 
-    /// Chooses pages by a percentage, as `choose_measured` does. Fails only if out of memory.
-    fn choose(&self, alloc: Global, heap: &Heap, percent: u32) -> Result<Choice, AllocError>
+    /// Measures all pages, as `choosing::measure` does. Fails only if out of memory.
+    fn measure(&self, alloc: Global, heap: &Heap, percent: u32) -> Result<Found, AllocError>
         requires { may_mark self.now }
-        ensures pages { IfOk result (λ choice. IsChoice heap.now percent choice.pages.items) }
-        ensures words { IfOk result (λ choice. choice.words ≡ words_on heap.now choice.pages.items) }
-        ensures live { IfOk result (λ choice. choice.live_words ≡ all_words heap.now) };
+        ensures { IfOk result (IsFound heap.now percent) };
 
     /// Prepares memory for the pages to which `words` words are copied, or does nothing. The state of the heap stays.
     fn prepare(&self, heap: &mut ManagedHeap, words: u64)
@@ -64,8 +62,8 @@ impl Executor for Alone {
         heap.finish_mark(0)
     }
 
-    fn choose(&self, alloc: Global, heap: &Heap, percent: u32) -> Result<Choice, AllocError> {
-        choose_measured(alloc, heap, percent)
+    fn measure(&self, alloc: Global, heap: &Heap, percent: u32) -> Result<Found, AllocError> {
+        measure(alloc, heap, percent)
     }
 
     fn prepare(&self, _heap: &mut ManagedHeap, _words: u64) {}
@@ -93,8 +91,8 @@ impl<'a, R: Threads + Sync> Executor for OnThreads<'a, R> {
         heap.finish_mark_by(self.rt, 0, self.threads)
     }
 
-    fn choose(&self, alloc: Global, heap: &Heap, percent: u32) -> Result<Choice, AllocError> {
-        choose_measured_by(self.rt, alloc, heap, percent, self.threads)
+    fn measure(&self, alloc: Global, heap: &Heap, percent: u32) -> Result<Found, AllocError> {
+        measure_by(self.rt, alloc, heap, percent, self.threads)
     }
 
     fn prepare(&self, heap: &mut ManagedHeap, words: u64) {

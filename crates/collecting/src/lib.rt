@@ -13,6 +13,7 @@ mod faults;
 mod filling;
 mod leftovers;
 mod low;
+mod measured;
 mod numbers;
 mod pacing;
 mod parts;

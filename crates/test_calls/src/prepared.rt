@@ -190,3 +190,16 @@ fn sizes_are_kept_of_found_pages(rt: HostRuntime) {
     let mut heap = new_heap(&rt, rt.alloc(), 64, 128);
     keeps_sizes(&rt, rt.alloc(), &mut heap);
 }
+
+/// A complete collection keeps nothing with pages that it has found, but for which there are no free frames.
+fn keeps_nothing(rt: &impl Abort, alloc: Global, heap: &mut impl Framed) {
+    fill(rt, alloc, heap);
+    let collected = done(rt, heap.collect(alloc, 75));
+    same(rt, (collected.emptied, heap.sized_pages()), (10, 0));
+}
+
+#[test]
+fn sizes_are_freed_of_other_pages(rt: HostRuntime) {
+    let mut heap = new_heap(&rt, rt.alloc(), 44, 128);
+    keeps_nothing(&rt, rt.alloc(), &mut heap);
+}

@@ -2,11 +2,17 @@
 
 use crate::protections::{HeldHeap, close, new_heap};
 use crate::same::{same, same_at};
-use choosing::{choose_measured, choose_measured_by};
+use choosing::{Choice, Found, choose_found, measure, measure_by};
 use std::alloc::Global;
 use std::process::Abort;
 use std::test::Fail;
 use std::thread::Threads;
+
+/// Chooses of the pages that were found.
+fn choose_of(alloc: Global, heap: &impl HeldHeap, found: Found) -> Result<Choice, Fail> {
+    let mut found = found;
+    Ok(choose_found(alloc, heap.heap(), 100, &mut found)?)
+}
 
 /// On any number of threads the same is chosen as on this one: page 1, with one object.
 fn chooses_the_same<R: Abort + Threads + Sync>(
@@ -15,13 +21,14 @@ fn chooses_the_same<R: Abort + Threads + Sync>(
     mut heap: impl HeldHeap + Drop,
 ) -> Result<(), Fail> {
     close(&mut heap)?;
-    let alone = choose_measured(alloc, heap.heap(), 100)?;
+    let alone = choose_of(alloc, &heap, measure(alloc, heap.heap(), 100)?)?;
     same(rt, alone.pages.len(), 1);
     for threads in 0..4 {
-        let found = choose_measured_by(rt, alloc, heap.heap(), 100, threads)?;
-        same_at(rt, threads, found.pages.len(), 1);
-        same_at(rt, threads, found.words, alone.words);
-        same_at(rt, threads, found.live_words, alone.live_words);
+        let found = measure_by(rt, alloc, heap.heap(), 100, threads)?;
+        let choice = choose_of(alloc, &heap, found)?;
+        same_at(rt, threads, choice.pages.len(), 1);
+        same_at(rt, threads, choice.words, alone.words);
+        same_at(rt, threads, choice.live_words, alone.live_words);
     }
     Ok(())
 }
@@ -29,4 +36,25 @@ fn chooses_the_same<R: Abort + Threads + Sync>(
 #[test]
 fn threads_choose_the_same(rt: HostRuntime) -> Result<(), Fail> {
     chooses_the_same(&rt, rt.alloc(), new_heap(rt.alloc())?)
+}
+
+/// The live objects of page 1 are found too, on any number of threads.
+fn finds_objects<R: Abort + Threads + Sync>(
+    rt: &R,
+    alloc: Global,
+    mut heap: impl HeldHeap + Drop,
+) -> Result<(), Fail> {
+    close(&mut heap)?;
+    same(rt, measure(alloc, heap.heap(), 100)?.objects.len(), 1);
+    same(rt, measure(alloc, heap.heap(), 0)?.objects.len(), 0);
+    for threads in 0..4 {
+        let found = measure_by(rt, alloc, heap.heap(), 100, threads)?;
+        same_at(rt, threads, found.objects.len(), 1);
+    }
+    Ok(())
+}
+
+#[test]
+fn threads_find_live_objects(rt: HostRuntime) -> Result<(), Fail> {
+    finds_objects(&rt, rt.alloc(), new_heap(rt.alloc())?)
 }

@@ -1,11 +1,12 @@
-//! Sizes of live objects that are kept with their page.
+//! Live objects and their sizes that are kept with their page.
 
 use crate::protections::{close, new_heap};
 use crate::same::same_at;
 use cycle::Stepping;
 use heap::Heap;
 use model::{Actor, Step};
-use std::alloc::AllocError;
+use relocate::measured_objects;
+use std::alloc::{AllocError, Global};
 use std::process::Abort;
 use std::test::Fail;
 
@@ -16,6 +17,12 @@ trait Keeping: Stepping {
 
     /// Returns whether the sizes of each of the pages 1 to 3 are kept.
     fn kept(&self) -> [bool; 3];
+
+    /// Keeps the objects of page 1.
+    fn keep_first(&mut self, alloc: Global) -> Result<(), AllocError>;
+
+    /// Frees what is kept with a page.
+    fn forget(&mut self, page: u32);
 
     /// Takes the objects of page 1, and returns whether they were kept.
     fn take_first(&mut self) -> bool;
@@ -33,6 +40,18 @@ impl Keeping for Heap {
 
     fn kept(&self) -> [bool; 3] {
         [is_kept(self, 1), is_kept(self, 2), is_kept(self, 3)]
+    }
+
+    fn keep_first(&mut self, alloc: Global) -> Result<(), AllocError> {
+        if self.memory().page_count() == 0 {
+            return Ok(());
+        }
+        let objects = measured_objects(alloc, self, 1)?;
+        self.keep_objects(1, objects)
+    }
+
+    fn forget(&mut self, page: u32) {
+        self.forget_objects(page);
     }
 
     fn take_first(&mut self) -> bool {
@@ -72,4 +91,30 @@ fn keeps(rt: &impl Abort, mut heap: impl Keeping + Drop) -> Result<(), Fail> {
 #[test]
 fn sizes_are_kept_until_a_write(rt: HostRuntime) -> Result<(), Fail> {
     keeps(&rt, new_heap(rt.alloc())?)
+}
+
+/// The objects of page 1 are kept until they are freed, and what is kept with other pages stays.
+fn keeps_objects(
+    rt: &impl Abort,
+    alloc: Global,
+    mut heap: impl Keeping + Drop,
+) -> Result<(), Fail> {
+    close(&mut heap)?;
+    heap.keep_first(alloc)?;
+    same_at(rt, "kept", heap.kept(), FIRST);
+    for page in [0, 2, 3, u32::MAX] {
+        heap.forget(page);
+    }
+    same_at(rt, "others freed", heap.kept(), FIRST);
+    heap.forget(1);
+    same_at(rt, "freed", heap.kept(), NONE);
+    heap.keep_first(alloc)?;
+    let taken = [heap.take_first(), heap.take_first(), false];
+    same_at(rt, "taken", taken, FIRST);
+    Ok(())
+}
+
+#[test]
+fn objects_are_kept_until_they_are_freed(rt: HostRuntime) -> Result<(), Fail> {
+    keeps_objects(&rt, rt.alloc(), new_heap(rt.alloc())?)
 }
