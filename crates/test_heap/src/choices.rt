@@ -2,16 +2,28 @@
 
 use crate::protections::{HeldHeap, close, new_heap};
 use crate::same::{same, same_at};
-use choosing::{Choice, Found, choose_found, measure, measure_by};
+use choosing::{Choice, choose_found, measure, measure_by};
+use heap::Heap;
 use std::alloc::Global;
 use std::process::Abort;
 use std::test::Fail;
 use std::thread::Threads;
 
-/// Chooses of the pages that were found.
-fn choose_of(alloc: Global, heap: &impl HeldHeap, found: Found) -> Result<Choice, Fail> {
-    let mut found = found;
-    Ok(choose_found(alloc, heap.heap(), 100, &mut found)?)
+/// Chooses pages that are measured on this thread.
+fn choose_alone(alloc: Global, heap: &Heap) -> Result<Choice, Fail> {
+    let mut found = measure(alloc, heap, 100)?;
+    Ok(choose_found(alloc, heap, 100, &mut found)?)
+}
+
+/// Chooses pages that are measured on a number of threads.
+fn choose_by<R: Threads + Sync>(
+    rt: &R,
+    alloc: Global,
+    heap: &Heap,
+    threads: u32,
+) -> Result<Choice, Fail> {
+    let mut found = measure_by(rt, alloc, heap, 100, threads)?;
+    Ok(choose_found(alloc, heap, 100, &mut found)?)
 }
 
 /// On any number of threads the same is chosen as on this one: page 1, with one object.
@@ -21,11 +33,10 @@ fn chooses_the_same<R: Abort + Threads + Sync>(
     mut heap: impl HeldHeap + Drop,
 ) -> Result<(), Fail> {
     close(&mut heap)?;
-    let alone = choose_of(alloc, &heap, measure(alloc, heap.heap(), 100)?)?;
+    let alone = choose_alone(alloc, heap.heap())?;
     same(rt, alone.pages.len(), 1);
     for threads in 0..4 {
-        let found = measure_by(rt, alloc, heap.heap(), 100, threads)?;
-        let choice = choose_of(alloc, &heap, found)?;
+        let choice = choose_by(rt, alloc, heap.heap(), threads)?;
         same_at(rt, threads, choice.pages.len(), 1);
         same_at(rt, threads, choice.words, alone.words);
         same_at(rt, threads, choice.live_words, alone.live_words);
