@@ -30,6 +30,14 @@ fn forget_objects(heap: &mut ManagedHeap, pages: &[(u64, u32)])
     }
 }
 
+/// Returns how many pages were chosen: none, if that failed.
+fn chosen_count(choice: &Result<Choice, AllocError>) -> usize {
+    match choice {
+        Ok(choice) => choice.pages.len(),
+        Err(_) => 0,
+    }
+}
+
 /// Chooses pages of those that were found, as `choose_found` does, and keeps the live objects of the chosen ones with
 /// them. The state of the heap stays.
 pub(crate) fn choose_kept(
@@ -47,8 +55,8 @@ pub(crate) fn choose_kept(
     let mut found = found;
     let objects = mem::replace(&mut found.objects, Vec::new(alloc));
     keep_objects(heap, objects);
-    let choice = choose_found(alloc, heap.heap(), percent, &mut found)?;
-    let chosen = choice.pages.len().min(found.pages.len());
+    let choice = choose_found(alloc, heap.heap(), percent, &mut found);
+    let chosen = chosen_count(&choice).min(found.pages.len());
     forget_objects(heap, &found.pages[chosen..]);
-    Ok(choice)
+    choice
 }
