@@ -70,8 +70,8 @@ fn cut(
 }
 
 /// Measures all pages: finds the closed ones of which at most a percentage of the words is live, with their live words
-/// and their live objects, and the live words of all. It reads the header of each live object once. Fails only if out of
-/// memory for the list of pages: it leaves out objects for which there is none.
+/// and their live objects, and the live words of all. It reads the headers of live objects page by page, those of a
+/// sparse page twice. Fails only if out of memory for the list of pages: it leaves out objects for which there is none.
 pub fn measure(alloc: Global, heap: &Heap, percent: u32) -> Result<Found, AllocError>
     ensures { IfOk result (IsFound heap.now percent) }
 {

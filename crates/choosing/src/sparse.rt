@@ -4,8 +4,6 @@ ghost use Rattle.std.specs.Prelude.{◌≡◌, ◌<◌, ◌≤◌, ◌*◌, ◌+
 ghost use Rattle.std.specs.List.{All, sum_by};
 ghost use Rattle.model.specs.Plans.{offsets_from};
 ghost use Rattle.model.specs.States.{HeapState};
-ghost use Rattle.model.specs.declared.limits.TheConstants.{MOST_WORDS};
-ghost use Rattle.relocate.specs.Drafts.{AreLiveOn};
 ghost use Rattle.choosing.specs.Choices.{AreOf, is_closed_at, is_in_use, live_words, measured_if, size_on};
 ghost use Rattle.choosing.specs.Choices.{with_sparse, words_in_use};
 ghost use Rattle.choosing.specs.Measures.{IsFound, IsOnPage};
@@ -134,43 +132,15 @@ pub struct Found {
     pub objects: Vec<PageObjects>,
 }
 
-/// Returns how many words live objects have together.
-fn words_of(objects: &LiveObjects) -> u64
-    ensures value { result ≡ sum_by (λ n. n) objects.now.sizes }
-    ensures few { length objects.now.sizes ≤ MOST_WORDS }
-{
-    let sizes = objects.sizes();
-    u64::from(sizes.before(sizes.len()))
-}
-
-/// How many words the live objects of a page have, and these objects, if memory was there for them.
-#[derive(Drop)]
-struct LiveWords {
-    words: u64,
-    objects: Option<LiveObjects>,
-}
-
-/// Returns how many words the live objects of a page have, by its number from 1, with these objects.
-fn live_objects(alloc: Global, heap: &Heap, page: u32) -> LiveWords
+/// Returns a page with its live objects, by its number from 1, unless out of memory.
+fn page_objects(alloc: Global, heap: &Heap, page: u32) -> Option<PageObjects>
     requires low { 0 < page }
     requires high { page ≤ heap.now.store.count }
-    ensures words { result.words ≡ live_words heap.now page }
-    ensures range { result.words ≤ 131071 * 32768 }
-    ensures objects { IfSome result.objects (AreLiveOn heap.now page) }
+    ensures { IfSome result (IsOnPage heap.now) }
 {
-    heap.law();
     match measured_objects(alloc, heap, page) {
-        Ok(objects) => {
-            let words = words_of(&objects);
-            LiveWords {
-                words,
-                objects: Some(objects),
-            }
-        }
-        Err(_) => LiveWords {
-            words: live_words(heap, page),
-            objects: None,
-        },
+        Ok(objects) => Some(PageObjects { page, objects }),
+        Err(_) => None,
     }
 }
 
@@ -181,22 +151,8 @@ struct PageMeasure {
     objects: Option<PageObjects>,
 }
 
-/// Returns a page with its live objects, if there are any, and it is sparse.
-fn if_kept(
-    page: u32,
-    sparse: Option<(u64, u32)>,
-    objects: Option<LiveObjects>,
-) -> Option<PageObjects>
-    ensures { (h : HeapState) → IfSome objects (AreLiveOn h page) → IfSome result (IsOnPage h) }
-{
-    if sparse.is_none() {
-        return None;
-    }
-    let objects = objects?;
-    Some(PageObjects { page, objects })
-}
-
-/// Measures a page, as `measure_page` does; with its live objects, if they are asked for.
+/// Measures a page, as `measure_page` does. If its live objects are asked for and it is sparse, it reads their headers
+/// once more, which a cache still has.
 fn measure_objects(
     alloc: Global,
     heap: &Heap,
@@ -210,20 +166,16 @@ fn measure_objects(
     ensures objects { IfSome result.objects (IsOnPage heap.now) }
 {
     heap.law();
-    if !with_objects || !is_in_use(heap, page) {
+    let measure = measure_page(heap, percent, page);
+    if !with_objects || measure.sparse.is_none() || !is_in_use(heap, page) {
         return PageMeasure {
-            measure: measure_page(heap, percent, page),
+            measure,
             objects: None,
         };
     }
-    let live = live_objects(alloc, heap, page);
-    let sparse = if_sparse(heap, percent, page, live.words);
     PageMeasure {
-        measure: Measure {
-            live: live.words,
-            sparse,
-        },
-        objects: if_kept(page, sparse, live.objects),
+        measure,
+        objects: page_objects(alloc, heap, page),
     }
 }
 

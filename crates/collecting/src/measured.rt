@@ -1,4 +1,5 @@
-//! What was measured of pages is kept with them until they are protected: so headers of objects are read once.
+//! What was measured of pages is kept with them until they are protected: so the choice and the protection read no
+//! headers of objects.
 
 ghost use Rattle.std.specs.Prelude.{◌≡◌, IfOk};
 ghost use Rattle.std.specs.List.{All};
