@@ -69,9 +69,10 @@ fn cut(
     })
 }
 
-/// Measures all pages: finds the closed ones of which at most a percentage of the words is live, with their live words
-/// and their live objects, and the live words of all. It reads the headers of live objects page by page, those of a
-/// sparse page twice. Fails only if out of memory for the list of pages: it leaves out objects for which there is none.
+/// Measures all pages: finds the closed ones of which at most `percent` words of a hundred are live, with their live
+/// words and their live objects, and the live words of all. It reads the headers of live objects page by page, those of
+/// a sparse page twice. Fails only if out of memory for the list of pages; without memory for the objects of a page, it
+/// leaves these out.
 pub fn measure(alloc: Global, heap: &Heap, percent: u32) -> Result<Found, AllocError>
     ensures { IfOk result (IsFound heap.now percent) }
 {
@@ -79,8 +80,8 @@ pub fn measure(alloc: Global, heap: &Heap, percent: u32) -> Result<Found, AllocE
 }
 
 /// Sorts the sparse pages that were found, by rising numbers of live words, and by rising page numbers if these are
-/// equal, and chooses the first ones for whose plan there is space. It reads headers of live objects only if their sizes
-/// aren't kept. Fails only if out of memory.
+/// equal, and chooses the first ones for whose plan there is space, by the percentage by which they were found. It reads
+/// headers of live objects only if their sizes aren't kept. Fails only if out of memory.
 pub fn choose_found(
     alloc: Global,
     heap: &Heap,

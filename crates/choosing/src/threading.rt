@@ -159,7 +159,8 @@ fn take_objects(alloc: Global, parts: Vec<Option<Found>, Global>) -> Vec<PageObj
 
 /// Measures all pages as `measure` does, with the same pages and words, on a number of threads, each for some of the
 /// pages up to the last one in use, at most 1,024; the others have no live words. With 0 or 1 thread, or if one can't be
-/// started, it does so on this one. Fails only if out of memory.
+/// started, it does so on this one. Fails only if out of memory for the list of pages; it may leave out objects of any
+/// page for which there is no memory.
 pub fn measure_by<R: Threads + Sync>(
     rt: &R,
     alloc: Global,

@@ -33,7 +33,7 @@ pub(crate) struct Notes {
 }
 
 impl Notes {
-    /// Returns no memory yet; what is new has space for so many notes.
+    /// Returns no memory yet. What is allocated later has space for `space` notes.
     pub fn new(alloc: Global, space: usize) -> Notes {
         Notes {
             space,
