@@ -149,17 +149,15 @@ test:
 	@$(needs_toolchain)
 	@RT='$(RT)' INSTALL='$(INSTALL)' PYTHON='$(PYTHON)' sh tests/all.sh
 
-# The crates whose mutants 'make edits' tries; none: all that have any. How many crates at once: each takes all
-# processors and several GB.
+# The crates whose mutants 'make edits' tries; none: all that have any.
 CRATES =
-JOBS = 1
 
 edits:
 	@$(needs_toolchain)
 ifdef CHECK
 	@$(PYTHON) tests/edits.py check $(CRATES)
 else
-	@RT='$(RT)' $(PROGRESS) --say 'trying mutants' -- $(PYTHON) tests/edits.py try --jobs $(JOBS) $(CRATES)
+	@RT='$(RT)' $(PROGRESS) --say 'trying mutants' -- $(PYTHON) tests/edits.py try $(CRATES)
 endif
 
 install: pauseless libpauseless.a
@@ -173,21 +171,15 @@ install: pauseless libpauseless.a
 # The parts of the bench, which are programs of bench/.
 PARTS = c_calls lisp calls commands run boehm waves crowds zgc pauses large cache data
 
-# The programs in Rattle that they measure.
-BENCHES = bench_calls bench_collections bench_sharing bench_lock bench_portions
-
 ifdef TRY
 bench-programs:
-	@for crate in foreign report $(BENCHES); do \
+	@for crate in foreign report bench_calls benches; do \
 		AR='$(AR)' $(unproved) --unchecked $$crate || exit 1; \
 	done
 else
 bench-programs: pauseless libpauseless.a
 	@$(call built,bench_calls,copies 64 3 2)
-	@$(call built,bench_collections,mark-list 10 2 1 1)
-	@$(call built,bench_sharing,act 100)
-	@$(call built,bench_lock,holds 64 8 4 2 10)
-	@$(call built,bench_portions,portions 2 128)
+	@$(call built,benches,collections mark-list 10 2 1 1)
 endif
 
 bench: bench-programs
@@ -254,20 +246,19 @@ SOAK_THREADS = 2 4 8
 
 soak: libpauseless.a
 	@$(needs_toolchain)
-	@$(call built,soak_steps,rolling 1 100000 1)
-	@$(call built,soak_threads,threads 2 1000)
+	@$(call built,benches,steps rolling 1 100000 1)
 	@$(call part,1 of $(words x $(SOAKED)): $(SOAK_OBJECTS) objects that nobody keeps) \
-		crates/soak_steps/out/soak_steps waste $(SOAK_OBJECTS)
+		crates/benches/out/benches steps waste $(SOAK_OBJECTS)
 	@number=1; for heap in $(SOAKED); do \
 		number=$$((number + 1)); \
 		what="soak: $$number of $(words x $(SOAKED)): $(SOAK_STEPS) steps on the heap '$$heap'"; \
 		echo "$$what" >&2; \
-		$(PROGRESS) --say "$$what" -- crates/soak_steps/out/soak_steps $$heap 1 $(SOAK_STEPS) 1000 1 || exit 1; \
+		$(PROGRESS) --say "$$what" -- crates/benches/out/benches steps $$heap 1 $(SOAK_STEPS) 1000 1 || exit 1; \
 	done
 	@for threads in $(SOAK_THREADS); do \
 		what="soak: $$threads threads that share a heap"; \
 		echo "$$what" >&2; \
-		$(PROGRESS) --say "$$what" -- crates/soak_threads/out/soak_threads timed threads $$threads \
+		$(PROGRESS) --say "$$what" -- crates/benches/out/benches threads timed turns $$threads \
 			$$(($(SOAK_TURNS) / 4)) || exit 1; \
 	done
 	@mkdir -p target

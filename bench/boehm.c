@@ -1,6 +1,6 @@
 /* Shapes of objects that are collected, and objects that are made one behind another, on the collector of Boehm,
-   Demers and Weiser. The words of a command are those of the program of crates/bench_collections, which has the same on
-   this heap:
+   Demers and Weiser. The words of a command are those of a work of crates/bench_collections, which has the same on this
+   heap:
 
      collect-SHAPE COUNT WORDS HEAPS TIMES   so many times a shape is made, and collected so many times
      keep WORDS COUNT                        so many objects are made, and each becomes the head of a list

@@ -1,7 +1,7 @@
 #!/usr/bin/env python3
 """Compares collections with the collector of Boehm, Demers and Weiser, bdwgc.
 
-The program is that of the crate `bench_collections`; `bench/boehm.c` has the same on bdwgc, with one marker, and is
+The works are those of the crate `bench_collections`; `bench/boehm.c` has the same on bdwgc, with one marker, and is
 built here. If libgc isn't there, a line says so, and nothing is measured. The figures are nanoseconds of a processor,
 or instructions, which `valgrind` counts, for one object that lives or that is made. Each is the difference of two runs,
 the best of several, which differ in one loop alone; the runs of both sides take turns. A '-' is a difference that isn't
@@ -59,10 +59,10 @@ def built(folder):
 
 
 class Bench:
-    """This heap's program and bdwgc's, and how their runs are measured."""
+    """This heap's bench and bdwgc's program, and how their runs are measured."""
 
     def __init__(self, ours, other, instructions):
-        self.ours, self.instructions = [ours], instructions
+        self.ours, self.instructions = ours, instructions
         self.others = [[other], [other, "exact"]]
         self.forms, self.objects = {}, {}
 
@@ -144,7 +144,7 @@ def by(work, instructions):
     def table(programs):
         with tempfile.TemporaryDirectory() as folder:
             other = built(folder)
-            return work(Bench(programs["bench_collections"], other, instructions)) if other else None
+            return work(Bench(programs.bench("collections"), other, instructions)) if other else None
     return table
 
 

@@ -1,7 +1,7 @@
 #!/usr/bin/env python3
 """Times threads that share a heap or a book.
 
-The programs are those of the crates `bench_sharing`, `bench_lock` and `bench_portions`, which read a clock
+The works are those of the crates `bench_sharing` and `bench_portions`, which read a clock
 themselves. Forms take turns, so that a slow moment doesn't fall on one alone. Figures of one thread are the best
 of several runs, those of several threads the median: the best would be of a run in which they hardly met. If other
 programs use the processors too, `chrt -f 20` before the command keeps them away from threads.
@@ -66,7 +66,7 @@ CYCLE_RUNS = 5
 
 def thread_steps(programs):
     """Steps by each form of calls."""
-    sharing, portions = programs["bench_sharing"], programs["bench_portions"]
+    sharing, portions = programs.bench("sharing"), programs.bench("portions")
     forms = {form: (sharing, form, STEPS) for form in ("act", "any", "seat")}
     for threads in THREADS:
         forms["steps", threads] = (sharing, "steps", threads, STEPS // threads)
@@ -75,8 +75,8 @@ def thread_steps(programs):
             forms[name, threads] = (portions, name, threads, SHARED_STEPS // threads)
     took = {form: [] for form in forms}
     for _ in range(RUNS):
-        for form, (program, *words) in forms.items():
-            count, nanos, _ = lines(program, words)[words[0]]
+        for form, (bench, *words) in forms.items():
+            count, nanos, _ = lines(bench, words)[words[0]]
             took[form].append(nanos / count)
     names = {"act": "`Book::act`, its kind known", "any": "`Book::act`", "seat": "`Seat::act`"}
     names |= {("steps", threads): "`Shared::step`" for threads in THREADS}
@@ -99,7 +99,7 @@ def turns(programs):
     found = {form: [] for form in forms}
     for _ in range(RUNS):
         for form, words in forms.items():
-            found[form].append(lines(programs["bench_portions"], words))
+            found[form].append(lines(programs.bench("portions"), words))
     rows = []
     for (name, rests, threads), runs in found.items():
         wait, hold = (min(run[kind][2] if kind in run else 0 for run in runs) / 1e6 for kind in ("wait", "hold"))
@@ -111,12 +111,12 @@ def turns(programs):
             "million steps a second"], rows
 
 
-def best_rates(program, forms):
+def best_rates(bench, forms):
     """Of each form, which has a name and a number of threads, the most millions a second of several runs."""
     best = dict.fromkeys(forms, 0)
     for _ in range(RUNS):
         for form, words in forms.items():
-            count, nanos, _ = lines(program, words)[words[0]]
+            count, nanos, _ = lines(bench, words)[words[0]]
             best[form] = max(best[form], 1e3 * count / nanos)
     return [[name, str(threads), f"{rate:,.1f}", f"{rate / best[name, 1]:.2f}"]
             for (name, threads), rate in best.items()]
@@ -125,7 +125,7 @@ def best_rates(program, forms):
 def views(programs):
     """Threads that read one heap at the same time."""
     forms = {("views of a `SharedHeap`", threads): ("views", threads, LOOKS) for threads in VIEWERS}
-    rates = best_rates(programs["bench_portions"], forms)
+    rates = best_rates(programs.bench("portions"), forms)
     return ["Form", "Threads", "million looks a second", "over one thread"], rates
 
 
@@ -133,22 +133,22 @@ def apart(programs):
     """Threads that each have a heap of their own."""
     names = {"apart": "a heap for each thread", "plain": "a plain heap for each thread"}
     forms = {(names[name], threads): (name, threads, APART_STEPS) for name in names for threads in APART}
-    rates = best_rates(programs["bench_portions"], forms)
+    rates = best_rates(programs.bench("portions"), forms)
     return ["Form", "Threads", "million steps a second", "over one thread"], rates
 
 
-def held(program, words):
+def held(bench, words):
     """The longest time of each kind of step on a heap, in microseconds: the least of some runs."""
     found = {}
     for _ in range(HOLD_RUNS):
-        for name, (_, _, longest) in lines(program, ("holds", *words)).items():
+        for name, (_, _, longest) in lines(bench, ("holds", *words)).items():
             found[name] = min(longest / 1e3, found.get(name, longest / 1e3))
     return found
 
 
 def holds(programs):
     """Steps of each kind on large heaps."""
-    found = {heap: held(programs["bench_lock"], words) for heap, words in HEAPS.items()}
+    found = {heap: held(programs.bench("sharing"), words) for heap, words in HEAPS.items()}
     names = dict.fromkeys(name for times in found.values() for name in times)
     long = [name for name in names if max(times.get(name, 0) for times in found.values()) >= 20]
     rows = [[name, *(f"{times[name]:,.0f}" if name in times else "" for times in found.values())] for name in long]
@@ -164,7 +164,7 @@ def cycles(programs):
     took = {(form, part): [] for form in forms for part in ("mark", "cycle")}
     for _ in range(CYCLE_RUNS):
         for form, words in forms.items():
-            rows = lines(programs["bench_lock"], words)
+            rows = lines(programs.bench("sharing"), words)
             for part in ("mark", "cycle"):
                 took[form, part].append(rows[part][1] / 1e6)
     rows = []

@@ -35,6 +35,10 @@ class Programs:
             sys.exit(f"{os.path.normpath(path)} isn't there: run 'make bench{'' if self.are_proved else ' TRY=1'}'")
         return os.path.abspath(path)
 
+    def bench(self, name):
+        """The words of a command that begin the works of a bench."""
+        return [self["benches"], name]
+
 
 def measure(what, tables):
     """Measures the tables of a part, prints them and keeps them in the results file.
@@ -71,9 +75,9 @@ def built_over(library, name, folder):
     return program
 
 
-def lines(program, words):
-    """What a timed run prints: for each name its count, its median and its longest time."""
-    command = [program, "timed"] + [str(word) for word in words]
+def lines(bench, words):
+    """What a timed work of a bench prints: for each name its count, its median and its longest time."""
+    command = [*bench, "timed", *map(str, words)]
     run = subprocess.run(command, stdout=subprocess.PIPE, text=True, check=True)
     rows = {}
     for line in run.stdout.splitlines():

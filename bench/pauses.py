@@ -1,7 +1,7 @@
 #!/usr/bin/env python3
 """Times the parts of collections in parts.
 
-The program is that of the crate `bench_collections`, which reads a clock itself. Pages of a heap are filled with
+The works are those of the crate `bench_collections`, which reads a clock itself. Pages of a heap are filled with
 objects, of which each second one lives, in a list. Then the heap is collected three times in parts, each of which is
 timed alone, and once by one call. The longest part of each kind is the least of some runs, since a run in which the
 program was put aside shows a longer one.
@@ -26,18 +26,18 @@ WIDE = [(32_768, 4_096, 1_024, 3_200), (32_768, 4_096, 17, 800)]
 LARGE = [heap for heap in HEAPS if heap[1] > 256]
 BUDGET = 100
 
-# The works of the program, by what their objects have.
+# The works, by what their objects have.
 WORKS = {"data": ("parts", HEAPS), "references": ("wide", WIDE)}
 
 # The kinds of parts, in the order of a collection, and a collection by one call.
 KINDS = ["begin", "scan", "end", "measure", "prepare", "protect", "empty", "last", "whole"]
 
 
-def least(program, work, words):
+def least(bench, work, words):
     """Of each kind of part how often it was done, its least median, and the least of its longest times."""
     found = {}
     for _ in range(RUNS):
-        for name, (count, median, longest) in lines(program, [work, *words]).items():
+        for name, (count, median, longest) in lines(bench, [work, *words]).items():
             _, lower, shorter = found.get(name, (count, median, longest))
             found[name] = (count, min(median, lower), min(longest, shorter))
     return found
@@ -54,7 +54,7 @@ def pauses(programs):
     for objects, (work, heaps) in WORKS.items():
         for words, frames, size, pages in heaps:
             for budget in BUDGETS:
-                found = least(programs["bench_collections"], work, (words, frames, size, pages, budget))
+                found = least(programs.bench("collections"), work, (words, frames, size, pages, budget))
                 cells = [micros(found[kind][2]) if kind in found else "" for kind in KINDS]
                 rows.append([objects, *(f"{number:,}" for number in (frames, words, size, pages, budget)), *cells])
     return ["Objects of", "Frames", "Words a page", "Words an object", "Pages filled", "Budget", *KINDS[:-1],
@@ -65,7 +65,7 @@ def few_pauses(programs):
     """The same if each collection empties few pages, and how many collections there were."""
     rows = []
     for words, frames, size, pages in LARGE:
-        found = least(programs["bench_collections"], "few", (words, frames, size, pages, BUDGET))
+        found = least(programs.bench("collections"), "few", (words, frames, size, pages, BUDGET))
         cells = [micros(found[kind][2]) if kind in found else "" for kind in KINDS[:-1]]
         rows.append([*(f"{number:,}" for number in (frames, words, size, pages, found["begin"][0])), *cells])
     return ["Frames", "Words a page", "Words an object", "Pages filled", "Collections", *KINDS[:-1]], rows

@@ -1,7 +1,7 @@
 #!/usr/bin/env python3
 """Times marks that scan on threads, and first collections whose marks do.
 
-The program is that of the crate `bench_collections`. A figure is the median of several marks, or of first collections
+The works are those of the crate `bench_collections`. A figure is the median of several marks, or of first collections
 of as many heaps, by a clock: the best of several runs, which take turns. 'over one thread' is how many times faster it
 is than the same by a drain of one thread. If other programs use the processors too, `chrt -f 20` before the command
 keeps them away from threads.
@@ -39,22 +39,22 @@ TIMES = {"waves": 7, "firsts": 3}
 RUNS = 3
 
 
-def took(program, work, threads):
+def took(bench, work, threads):
     """Nanoseconds of a mark or a collection."""
     turn, shape, count, words = work
-    rows = lines(program, (f"{turn}-{shape}", count, words, threads, TIMES[turn]))
+    rows = lines(bench, (f"{turn}-{shape}", count, words, threads, TIMES[turn]))
     return next(iter(rows.values()))[1]
 
 
 def waves(programs):
     """A row for each work."""
-    program = programs["bench_collections"]
+    bench = programs.bench("collections")
     best = {}
     for _ in range(RUNS):
         for work in WORKS:
             for threads in THREADS:
                 key = work, threads
-                best[key] = min(took(program, work, threads), best.get(key, float("inf")))
+                best[key] = min(took(bench, work, threads), best.get(key, float("inf")))
     rows = []
     for work in WORKS:
         turn, shape, count, _ = work
@@ -92,7 +92,7 @@ def markers(programs):
     """A row for each shape."""
     with tempfile.TemporaryDirectory() as folder:
         other = built(folder)
-        best = other and compared(programs["bench_collections"], other)
+        best = other and compared(programs.bench("collections"), other)
     if not best:
         return None
     rows = []

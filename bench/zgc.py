@@ -1,7 +1,7 @@
 #!/usr/bin/env python3
 """Times threads that make, share and read back lists, and the same on the JVM's ZGC.
 
-The program is that of the crate `bench_portions`, by its work `lists`; `bench/Lists.java` has the same, and is compiled
+It runs the work `lists` of the crate `bench_portions`; `bench/Lists.java` has the same, and is compiled
 here. If Java, its compiler or its ZGC isn't there, a line says so, and nothing is measured. Our heap has 32 MiB, the
 JVM's as many or 128. The runs of all take turns. Objects a second are the best of several runs, the longest wait and
 the longest stop the least of them, since a run in which a thread was put aside shows longer ones.
@@ -49,9 +49,9 @@ def compiled(folder):
     return True
 
 
-def ours(program, threads):
+def ours(bench, threads):
     """A run of ours: objects a second, collections, and the longest wait and stop in nanoseconds."""
-    rows = lines(program, ("lists", threads, LISTS // threads, *SHAPE))
+    rows = lines(bench, ("lists", threads, LISTS // threads, *SHAPE))
     count, nanos, _ = rows["lists"]
     wait, hold = (rows[kind][2] if kind in rows else 0 for kind in ("wait", "hold"))
     return 1e9 * count / nanos, rows["collections"][0], wait, hold
@@ -72,9 +72,9 @@ def zgc(folder, size, threads):
     return 1e9 * int(count) / int(nanos), collections, max(stalls, default=0), max(stops, default=0)
 
 
-def compared(program, folder):
+def compared(bench, folder):
     """Runs of both."""
-    names = {"a `SharedHeap`, 32 MiB": functools.partial(ours, program)}
+    names = {"a `SharedHeap`, 32 MiB": functools.partial(ours, bench)}
     names |= {f"ZGC, {size} MiB": functools.partial(zgc, folder, size) for size in SIZES}
     found = {(name, threads): [] for name in names for threads in THREADS}
     for _ in range(RUNS):
@@ -91,7 +91,7 @@ def compared(program, folder):
 
 def lists(programs):
     with tempfile.TemporaryDirectory() as folder:
-        return compared(programs["bench_portions"], folder) if compiled(folder) else None
+        return compared(programs.bench("portions"), folder) if compiled(folder) else None
 
 
 if __name__ == "__main__":

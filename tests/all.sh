@@ -1,10 +1,11 @@
 #!/bin/sh
 # The complete test command; 'make test' runs it at the top of the repository.
-# It proves all crates (proofs.sh), and then runs in four lanes: the checks of
+# It proves all crates (proofs.sh), and then runs in five lanes: the checks of
 # documents (README.md, the tables of crates, the contracts, links), the program
-# on scripts, faults, changed and long scripts, and with words, files, outputs,
-# memory and threads that fail, films, the library for C with the programs on it,
-# and the bookkeeping of mutants. The results are shown when all lanes have ended.
+# on scripts, faults, changed and long scripts, and with words, files, outputs and
+# memory that fail, and films, the program on threads, the library for C with the
+# programs on it, and the bookkeeping of mutants. The results are shown when all
+# lanes have ended.
 # The last line is 'N passed, M failed, K skipped', and the exit status is 0 if M
 # is 0. K counts mutants that weren't tried, as tests/refused.txt records that they
 # were rejected, and the program in Rust if there is no cargo. The lines before
@@ -95,12 +96,15 @@ lanes="$lanes $!"
 keep 'the trying of edits' sh tests/edits.sh &
 lanes="$lanes $!"
 (
+    keep 'the threads' sh tests/threads.sh
+    keep 'threads that lack memory' sh tests/starved.sh
+) &
+lanes="$lanes $!"
+(
     keep 'cut and changed scripts' sh tests/cuts.sh
     keep 'long scripts' sh tests/long.sh
     keep 'refused memory of calls' sh tests/calls.sh "$proved/crates"
     keep 'refused memory' sh tests/memory.sh
-    keep 'the threads' sh tests/threads.sh
-    keep 'threads that lack memory' sh tests/starved.sh
     keep 'the scripts' sh tests/scripts.sh
     keep 'the checks' sh tests/check.sh
     keep 'looks of checks' sh tests/looks.sh

@@ -24,12 +24,12 @@ told() {
 
 # Each is a crate, and a test of its own.
 for named in \
-    test_memory:rows::a_row_of_clear_bits \
-    test_memory:rows::rows_of_clear_bits \
-    test_memory:rows::rows_with_an_index \
-    test_memory:rows::copies_of_an_item \
-    test_memory:configs::a_copy_has_the_same_values \
+    test_values:rows::a_row_of_clear_bits \
+    test_values:rows::rows_of_clear_bits \
+    test_values:rows::rows_with_an_index \
+    test_values:configs::a_copy_has_the_same_values \
     test_memory:pages::takes_in_the_lowest_page \
+    test_memory:pages::copies_of_an_item \
     test_heap:heaps::the_first_fault_is_told \
     test_heap:protections::a_page_is_protected \
     test_heap:protections::pages_of_a_long_list \
@@ -56,7 +56,7 @@ for named in \
     test_sharing:steps::steps_of_threads \
     test_sharing:steps::pages_by_halves \
     test_sharing:openings::a_book_is_opened \
-    test_sharing:openings::pages_are_chosen \
+    test_sharing:choices::pages_are_chosen \
     test_sharing:lists::a_list_of_steps \
     test_sharing:lists::a_drain_in_two_parts \
     test_script_threads:wants::hints_come_back \

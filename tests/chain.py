@@ -1,15 +1,20 @@
 #!/usr/bin/env python3
-"""Prints what the time of the complete test command is made of: tests/chain.py TABLE [PROCESSORS..]
+"""Prints what the time of the complete test command is made of: tests/chain.py TABLE [--output FILE] [PROCESSORS..]
 
 TABLE is a file with the lines 'crate proof tests edits' that tests/measured.py writes, and that `make test` prints
 near its end. Of the seconds that crates.txt and the table have this prints the sum, the longest chain of proofs that
 wait for one another, and how long each number of processors (by default 2 and 4) would take if no proof or test ran on
-several. Work at the top of the repository.
+several. With FILE, what 'rt ci' or `make test` printed, it also prints each check of more than 120 seconds, with the
+number of functions that it proved, and the seconds for each of them. Work at the top of the repository.
 """
 
+import argparse
 import heapq
 import re
 import sys
+
+# A check that takes more seconds than this is printed.
+LONG = 120
 
 
 def seconds_of(path):
@@ -70,16 +75,44 @@ def span_of(below, seconds, processors):
     return now
 
 
-def main(table, *processors):
-    seconds, below = seconds_of(table), below_of()
+def functions_of(path):
+    """How many functions each check proved, by its crate and whether it was the check of its tests."""
+    counts, check = {}, None
+    with open(path, encoding="utf-8", errors="replace") as file:
+        for line in file:
+            if begins := re.fullmatch(r"== (\w+)(: its tests)?\n", line):
+                check = begins[1], bool(begins[2])
+            elif proved := re.match(r"logic=proved.* functions=(\d+)", line):
+                counts[check] = int(proved[1])
+    return counts
+
+
+def print_long(seconds, counts):
+    """Prints the longest checks first, with their functions."""
+    checks = [(took, name, kind) for name, row in seconds.items() for kind, took in zip((False, True), row)]
+    for took, name, is_tests in sorted((it for it in checks if it[0] > LONG), reverse=True):
+        what = f"{name}: its tests" if is_tests else name
+        count = counts.get((name, is_tests))
+        print(f"{took:6} {what}" + (f", {count} functions, {took / count:.1f} each" if count else ""))
+
+
+def main():
+    parser = argparse.ArgumentParser(usage=__doc__)
+    parser.add_argument("table")
+    parser.add_argument("--output")
+    parser.add_argument("processors", nargs="*", type=int, default=[2, 4])
+    asked = parser.parse_intermixed_args()
+    seconds, below = seconds_of(asked.table), below_of()
     kinds = [sum(column) for column in zip(*seconds.values())]
     print(f"{sum(kinds):,} seconds: proofs {kinds[0]:,}, tests {kinds[1]:,}, mutants {kinds[2]:,}")
     took, names = chain_of(below, {name: row[0] for name, row in seconds.items()})
     print(f"the longest chain of proofs: {took:,}: " + ", ".join(f"{it} {seconds.get(it, (0,))[0]}" for it in names))
-    for count in map(int, processors or (2, 4)):
+    for count in asked.processors:
         print(f"on {count} processors: {span_of(below, seconds, count):,}")
+    if asked.output:
+        print_long(seconds, functions_of(asked.output))
     return 0
 
 
 if __name__ == "__main__":
-    sys.exit(main(*sys.argv[1:]))
+    sys.exit(main())

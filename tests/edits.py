@@ -3,13 +3,14 @@
 
     tests/edits.py check [CRATE..]            prints which crates have mutants to try, and which of these can't be
                                               made; status 1 if there is one
-    tests/edits.py try [--jobs N] [CRATE..]   tries the mutants of these crates, or of all, and records them; of N
-                                              crates at once, by default of one: 'rt' tries several mutants of a
-                                              crate at once, as far as processors and memory allow
+    tests/edits.py try [CRATE..]              tries the mutants of these crates, or of all, by one 'rt ci', and
+                                              records each crate of which all were rejected
     tests/edits.py passed COMMIT              records the crates that are unchanged since a commit of which the
                                               complete test command has passed, as that tries what isn't recorded
     tests/edits.py copy FOLDER                copies the repository without the mutants that needn't be tried, and
                                               prints how many these are
+    tests/edits.py lanes [FOLDER]             prints how many crates can be proved at once; FOLDER has the limits of a
+                                              group of processes, by default those of this one
 
 All work at the top of the repository. A mutant that the prover rejected isn't tried again while its crate is
 unchanged: if all mutants of a crate were rejected, the crate has a line in tests/refused.txt, with its name, the number
@@ -27,8 +28,6 @@ import shutil
 import subprocess
 import sys
 import tempfile
-import time
-from concurrent.futures import ThreadPoolExecutor, as_completed
 
 BOOK = "tests/refused.txt"
 HEAD = "# Crates whose edits were all refused: name, edits, fingerprint. 'make edits' writes this file.\n"
@@ -37,10 +36,9 @@ PARTS = ("src", "specs", "must-fail")
 COMMENTS = {".rt": b"//", ".antt": b"--"}
 # A check takes 1 to 3 GB.
 MEMORY_OF_A_LANE = 4 << 30
+# Where the limits of this group of processes are, if it has any.
+GROUP = "/sys/fs/cgroup"
 RT = os.environ.get("RT", "rt")
-# Of the copy in which edits are tried: a crate that stands on all libraries, and what 'rt' said while it built them.
-TOP = "top_of_all"
-LOG = "libraries.log"
 
 
 def stop(why):
@@ -179,85 +177,74 @@ def named(crates, names):
     return names or crates.with_edits()
 
 
-def copy(crates, folder, paths):
-    for path in paths:
-        os.makedirs(os.path.dirname(f"{folder}/{path}"), exist_ok=True)
-        shutil.copy(f"{crates.root}/{path}", f"{folder}/{path}")
+def copy_with_edits(crates, folder, names):
+    """Copies the repository, with the edits of these crates alone."""
+    left_out = tuple(f"crates/{it}/must-fail/" for it in crates.with_edits() if it not in names)
+    for path in crates.files:
+        if not path.startswith(left_out):
+            os.makedirs(os.path.dirname(f"{folder}/{path}"), exist_ok=True)
+            shutil.copy(f"{crates.root}/{path}", f"{folder}/{path}")
 
 
-def copy_built(crates, name, folder):
-    """Copies what 'rt' has built of a library, once it no longer works there. It sees whether that still serves."""
-    held = os.open(f"{crates.root}/crates/{name}", os.O_RDONLY)
-    fcntl.flock(held, fcntl.LOCK_SH)
-    built = f"crates/{name}/out/rlib"
-    if os.path.isdir(f"{crates.root}/{built}"):
-        shutil.copytree(f"{crates.root}/{built}", f"{folder}/{built}")
-    os.close(held)
+def numbers_in(path):
+    """The numbers of a file that describes this machine, or the group of processes that this one is in; none if the
+    file isn't there, or sets no limit."""
+    try:
+        with open(path, encoding="utf-8") as file:
+            return [int(it) for it in re.findall(r"\b\d+\b", file.readline())]
+    except OSError:
+        return []
 
 
-def build_below(crates, names, folder, jobs):
-    """Has the libraries that these crates stand on proved and built in the copy, and gives whether they are."""
-    libraries = sorted(crates.all_below(names))
-    own = [path for it in libraries for path in crates.own(it, "")]
-    copy(crates, folder, own + [it for it in crates.files if it == "HANDLES"])
-    for name in libraries:
-        copy_built(crates, name, folder)
-    # One crate that stands on all of them: 'rt all check' builds the libraries that something stands on.
-    os.makedirs(f"{folder}/crates/{TOP}/src")
-    with open(f"{folder}/crates/{TOP}/src/lib.rt", "w", encoding="utf-8") as file:
-        file.write("// It has nothing.\n#![tactic(auto)]\n")
-    with open(f"{folder}/crates.txt", "w", encoding="utf-8") as file:
-        file.writelines(f"{it}: {' '.join(below)}\n" for it, below in crates.below.items() if it in libraries)
-        file.write(f"{TOP}: {' '.join(libraries)}\n")
-    with open(f"{folder}/{LOG}", "w", encoding="utf-8") as log:
-        ran = subprocess.run([RT, "all", "check", "--jobs", str(jobs)], cwd=folder, stdout=log, stderr=log)
-    shutil.rmtree(f"{folder}/crates/{TOP}")
-    return ran.returncode == 0
-
-
-def try_crate(crates, name, folder):
-    """Tries a crate's edits. Gives its line if all were refused, else None, and what was told."""
-    began, line = time.monotonic(), crates.line(name)
-    how = {"stdout": subprocess.PIPE, "stderr": subprocess.STDOUT, "errors": "replace"}
-    ran = subprocess.run([RT, "must-fail", name], cwd=folder, **how)
-    refused = len(re.findall(r"^rt: must-fail \S+: refused", ran.stdout, re.M))
-    edits = len(crates.edits(name))
-    told = f"{ran.stdout}{name}: {refused} of {edits} edits refused, in {time.monotonic() - began:.0f} s"
-    return line if ran.returncode == 0 and refused == edits else None, told
-
-
-def lanes():
-    """How many crates are proved side by side, as processors and memory allow."""
+def lanes(group=GROUP):
+    """How many crates are proved at once, as processors and memory allow, and the limits of a group of processes."""
     with open("/proc/meminfo", encoding="utf-8") as file:
         free = 1024 * int(re.search(r"MemAvailable:\s+(\d+)", file.read())[1])
-    return max(1, min(len(os.sched_getaffinity(0)), free // MEMORY_OF_A_LANE))
+    for most, used in zip(numbers_in(f"{group}/memory.max"), numbers_in(f"{group}/memory.current")):
+        free = min(free, most - used)
+    processors = len(os.sched_getaffinity(0))
+    if len(quota := numbers_in(f"{group}/cpu.max")) == 2:
+        processors = min(processors, quota[0] // quota[1])
+    return max(1, min(processors, free // MEMORY_OF_A_LANE))
 
 
-def try_all(names, jobs):
+def run_ci(names, folder):
+    """Runs 'rt ci' on these crates in a copy, prints what it says of each crate and edit, and gives all that it says.
+    It takes what such a run has proved on this machine before."""
+    how = {"stdout": subprocess.PIPE, "stderr": subprocess.STDOUT, "text": True, "errors": "replace"}
+    if lanes() > 1:
+        how["env"] = {"RT_JOBS": str(lanes()), **os.environ}
+    said = []
+    with subprocess.Popen([RT, "ci", *names], cwd=folder, **how) as ran:
+        for line in ran.stdout:
+            said.append(line)
+            if line.startswith("rt: ") and " is kept: " not in line:
+                print(line, end="", flush=True)
+    return "".join(said)
+
+
+def try_all(names):
     crates = Crates(os.getcwd())
-    names = sorted(named(crates, names), key=lambda it: -len(crates.edits(it)))
+    names = named(crates, names)
     if odd := misfits(crates, names):
         stop("these edits can't be made:\n" + "\n".join(odd))
-    passed = failed = 0
+    lines = {name: crates.line(name) for name in names}
     with tempfile.TemporaryDirectory(prefix="edits-") as folder:
-        if not build_below(crates, names, folder, lanes()):
-            subprocess.run(["tail", "-n", "40", f"{folder}/{LOG}"])
-            stop("what these crates stand on isn't proved")
-        copy(crates, folder, crates.files)
-        tried = Crates(folder)
-        with ThreadPoolExecutor(jobs) as pool:
-            running = {pool.submit(try_crate, tried, name, folder): name for name in names}
-            for done in as_completed(running):
-                line, told = done.result()
-                print(told, flush=True)
-                if line:
-                    write(crates.root, crates, line)
-                    passed += 1
-                else:
-                    print(f"failed: {running[done]} isn't written down", flush=True)
-                    failed += 1
-    print(f"{passed} passed, {failed} failed")
-    return 1 if failed else 0
+        copy_with_edits(crates, folder, names)
+        said = run_ci(names, folder)
+    if "rt: must-fail " not in said:
+        print("".join(said.splitlines(True)[-40:]), end="")
+    passed = 0
+    for name in names:
+        edits, refused = len(crates.edits(name)), len(re.findall(rf"^rt: must-fail {name}/\S+: refused", said, re.M))
+        print(f"{name}: {refused} of {edits} edits refused")
+        if refused == edits:
+            write(crates.root, crates, lines[name])
+            passed += 1
+        else:
+            print(f"failed: {name} isn't written down")
+    print(f"{passed} passed, {len(names) - passed} failed")
+    return 1 if passed < len(names) else 0
 
 
 def check(names):
@@ -286,10 +273,8 @@ def write_passed(commit):
 def copy_without_refused(folder):
     crates = Crates(os.getcwd())
     left = to_try(crates)
-    standing = [it for it in crates.with_edits() if it not in left]
-    left_out = tuple(f"crates/{it}/must-fail/" for it in standing)
-    copy(crates, folder, [path for path in crates.files if not path.startswith(left_out)])
-    print(sum(len(crates.edits(it)) for it in standing))
+    copy_with_edits(crates, folder, left)
+    print(sum(len(crates.edits(it)) for it in crates.with_edits() if it not in left))
     return 0
 
 
@@ -297,17 +282,19 @@ def main():
     parser = argparse.ArgumentParser(usage=__doc__)
     commands = parser.add_subparsers(dest="command", required=True)
     commands.add_parser("check").add_argument("names", nargs="*")
-    trying = commands.add_parser("try")
-    trying.add_argument("--jobs", type=int, default=1)
-    trying.add_argument("names", nargs="*")
+    commands.add_parser("try").add_argument("names", nargs="*")
     commands.add_parser("passed").add_argument("commit")
     commands.add_parser("copy").add_argument("folder")
+    commands.add_parser("lanes").add_argument("group", nargs="?", default=GROUP)
     asked = parser.parse_args()
+    if asked.command == "lanes":
+        print(lanes(asked.group))
+        return 0
     if asked.command == "check":
         return check(asked.names)
     if asked.command == "passed":
         return write_passed(asked.commit)
-    return try_all(asked.names, asked.jobs) if asked.command == "try" else copy_without_refused(asked.folder)
+    return try_all(asked.names) if asked.command == "try" else copy_without_refused(asked.folder)
 
 
 if __name__ == "__main__":

@@ -72,7 +72,7 @@ book=tests/refused.txt
 
 check low
 is 'a crate without a line' 1 'low: 1 edits to try'
-told "$PYTHON" "$tools/edits.py" try --jobs 2
+told "$PYTHON" "$tools/edits.py" try
 sort "$kept/got" > "$kept/sorted" && mv "$kept/sorted" "$kept/got"
 is 'edits that are refused' 0 '2 passed, 0 failed' \
     'high: 1 of 1 edits refused' \
@@ -137,10 +137,11 @@ cd "$kept" && rm -rf small && cp -R whole small && cd small || exit 1
 
 # An edit that is no mistake, so that the crate is proved with it.
 sed 's/= 2;/= 1 + 0;/' crates/high/must-fail/two_more.edit > crates/high/must-fail/as_it_was.edit
-told "$PYTHON" "$tools/edits.py" try --jobs 1 high
+told "$PYTHON" "$tools/edits.py" try high
 is 'an edit that is proved' 1 \
     'rt: must-fail high/as_it_was.edit: NOT REFUSED: the crate is still proved with this edit' \
     'rt: must-fail high/two_more.edit: refused, as it must be' \
+    'rt: FAILED: high/as_it_was.edit' \
     'high: 1 of 2 edits refused' \
     "failed: high isn't written down" \
     '0 passed, 1 failed'
@@ -162,6 +163,38 @@ printf 'seconds proof tests edits\nlow 10 1 0\nhigh 20 2 3\nall 30 3 3\n' > "$ke
 status=$?
 is 'what the time is made of' 0 '36 seconds: proofs 30, tests 3, mutants 3' \
     'the longest chain of proofs: 30: low 10, high 20' 'on 2 processors: 35' 'on 4 processors: 35'
+
+printf 'low 120 121 0\nhigh 300 0 0\n' > "$kept/table"
+printf '== low\nlogic=proved functions=4 sum=0\n== low: its tests\nlogic=proved tests=1 functions=11 sum=0\n' \
+    > "$kept/log"
+"$PYTHON" "$tools/chain.py" "$kept/table" --output "$kept/log" 1 > "$kept/got" 2>&1
+status=$?
+is 'the longest checks' 0 '541 seconds: proofs 420, tests 121, mutants 0' \
+    'the longest chain of proofs: 420: low 120, high 300' 'on 1 processors: 541' \
+    '   300 high' '   121 low: its tests, 11 functions, 11.0 each'
+
+# lanes MEMORY USED PROCESSORS: how many crates are proved at once with these limits, in GiB and in tenths.
+lanes() {
+    echo "$(($1 << 30))" > "$kept/limits/memory.max"
+    echo "$(($2 << 30))" > "$kept/limits/memory.current"
+    echo "${3}0000 100000" > "$kept/limits/cpu.max"
+    "$PYTHON" "$tools/edits.py" lanes "$kept/limits" >> "$kept/got"
+    status=$?
+}
+
+mkdir "$kept/limits"
+"$PYTHON" "$tools/edits.py" lanes "$kept/limits" | sed 's/^[1-9][0-9]*$/a number/' > "$kept/got"
+lanes 7 0 100000 && lanes 20 13 100000 && lanes 1000 0 19 && lanes 1 0 1 && lanes 1000 0 20
+two=$(awk '$1 == "MemAvailable:" { print $2 < 9000000 ? 1 : 2 }' /proc/meminfo)
+[ "$(getconf _NPROCESSORS_ONLN)" -ge 2 ] || two=1
+is 'how many crates are proved at once' 0 'a number' 1 1 1 1 "$two"
+
+# A check, by its name and its words, whose short children do the work, one after another.
+cp "$(command -v sh)" "$kept/rattle"
+work='for n in 1 2 3 4 5 6 7 8; do awk "BEGIN { for (i = 0; i < 10000000; i++) sum += i }"; done; sleep 1'
+told "$PYTHON" "$tools/measured.py" "$kept/table" sh -c "'$kept/rattle' -c '$work' rattle --crate-name high; :"
+awk '$1 == "high" { print ($2 > 0 ? "seconds" : "none"), $3, $4 }' "$kept/table" > "$kept/got"
+is 'what the children of a check took' 0 'seconds 0 0'
 
 echo "$passed passed, $failed failed"
 [ "$failed" = 0 ]

@@ -2,10 +2,12 @@
 """Runs a command, and tells how many seconds of a processor each crate took in it: tests/measured.py TABLE COMMAND..
 
 The table is written to the file TABLE, each minute and at the end: for each crate the seconds for its proof, the proof
-of its tests, and its edits. They are those of the prover's processes below the command, which are looked at twice a second: what a process
-took since it was last looked at is lost. Where there is no /proc, the table says so.
+of its tests, and its edits. They are those of the prover's processes below the command and of all that these started:
+with several jobs a check starts a process for every few functions. The processes are looked at twice a second: what a
+check took since it was last looked at is lost. Where there is no /proc, the table says so.
 """
 
+import contextlib
 import os
 import subprocess
 import sys
@@ -18,48 +20,70 @@ TICKS = os.sysconf("SC_CLK_TCK")
 KINDS = ("proof", "tests", "edits")
 
 
+class Process:
+    """A process that is there: its parent, when it began, and the time that it and those of its children took that
+    have ended."""
+
+    def __init__(self, number):
+        with open(f"/proc/{number}/stat", encoding="utf-8", errors="replace") as file:
+            self.name, _, fields = file.read().partition("(")[2].rpartition(")")
+        fields = fields.split()
+        self.number, self.parent, self.began = number, int(fields[1]), fields[19]
+        self.ticks = sum(map(int, fields[11:15]))
+
+    def what(self):
+        """The crate that this process checks, and the kind of the check; None if it checks none."""
+        if self.name != "rattle":
+            return None
+        try:
+            with open(f"/proc/{self.number}/cmdline", encoding="utf-8", errors="replace") as file:
+                words = file.read().split("\0")
+            folder = os.path.basename(os.readlink(f"/proc/{self.number}/cwd"))
+        except OSError:
+            return None
+        if "--crate-name" not in words:
+            return None
+        kind = "edits" if folder.startswith("rt-edit-") else "tests" if "--test" in words else "proof"
+        return words[words.index("--crate-name") + 1], kind
+
+
+def all_processes():
+    """The processes that are there, by their numbers."""
+    found = {}
+    for number in map(int, filter(str.isdigit, os.listdir("/proc"))):
+        with contextlib.suppress(OSError):
+            found[number] = Process(number)
+    return found
+
+
 class Watch:
-    """The prover's processes below one process."""
+    """The checks below one process."""
 
     def __init__(self, process):
         self.process = process
         self.found = {}
 
-    def is_below(self, parents, process):
-        while process in parents and process != self.process:
-            process = parents[process]
-        return process == self.process
-
     def look(self):
-        """Keeps the time of each of the prover's processes that is there now."""
-        parents, seen = {}, {}
-        for process in filter(str.isdigit, os.listdir("/proc")):
-            try:
-                with open(f"/proc/{process}/stat", encoding="utf-8", errors="replace") as file:
-                    name, _, fields = file.read().partition("(")[2].rpartition(")")
-                fields = fields.split()
-                parents[int(process)] = int(fields[1])
-                if name == "rattle":
-                    seen[int(process)] = int(fields[11]) + int(fields[12]), fields[19]
-            except OSError:
-                pass
-        for process, (ticks, began) in seen.items():
-            if self.is_below(parents, process):
-                self.keep(process, began, ticks)
+        """Keeps the time of each check that runs now."""
+        processes = all_processes()
+        checks = {it.number: what for it in processes.values() if (what := it.what())}
+        ticks = defaultdict(int)
+        for process in processes.values():
+            check = self.check_of(processes, checks, process)
+            if check:
+                ticks[check] += process.ticks
+        for check, took in ticks.items():
+            began = processes[check].began
+            _, before = self.found.get((check, began), (None, 0))
+            self.found[check, began] = checks[check], max(before, took)
 
-    def keep(self, process, began, ticks):
-        what, _ = self.found.get((process, began), (None, 0))
-        try:
-            with open(f"/proc/{process}/cmdline", encoding="utf-8", errors="replace") as file:
-                words = file.read().split("\0")
-            folder = os.path.basename(os.readlink(f"/proc/{process}/cwd"))
-        except OSError:
-            words = []
-        if "--crate-name" in words:
-            kind = "edits" if folder.startswith("rt-edit-") else "tests" if "--test" in words else "proof"
-            what = words[words.index("--crate-name") + 1], kind
-        if what:
-            self.found[process, began] = what, ticks
+    def check_of(self, processes, checks, process):
+        """The outermost check that a process belongs to; None if there is none, or if it isn't below the command."""
+        check = None
+        while process and process.number != self.process:
+            check = process.number if process.number in checks else check
+            process = processes.get(process.parent)
+        return check if process else None
 
     def seconds(self):
         """The seconds of each crate, of each kind."""

@@ -4,12 +4,19 @@
 # is a folder that doesn't exist yet; what was proved and built stays in it. The last line is 'N
 # passed, M failed, K skipped': K mutants weren't tried, as tests/refused.txt records them.
 # COPY.table has what each crate took and, in its last line, how many mutants were tried.
+#
+# It proves several crates at once, RT_JOBS of them or as many as 'edits.py lanes' prints: a check
+# takes 1 to 3 GB. By itself 'rt ci' reckons with 4 to 7 GB, and so proves two or three at once.
 
 RT=${RT:-rt}
 PYTHON=${PYTHON:-python3}
 tools=$(cd "$(dirname "$0")" && pwd)
 copy=$1
 
+lanes=${RT_JOBS:-$("$PYTHON" "$tools/edits.py" lanes)}
+if [ "${lanes:-1}" -gt 1 ]; then
+    export RT_JOBS="$lanes"
+fi
 standing=$("$PYTHON" "$tools/edits.py" copy "$copy") || {
     echo '0 passed, 1 failed'
     exit 1

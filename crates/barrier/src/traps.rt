@@ -12,7 +12,7 @@ use heap::{Heap, RawEdits};
 use marker::mark;
 use model::{Barrier, Counter, Phase, Refusal, Trap};
 use refword::Word;
-use relocate::follow;
+use single_copies::follow;
 
 /// Returns whether a GC trap is due: the reference leads to a page that the thread may not use.
 #[inline(always)]

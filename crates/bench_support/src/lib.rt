@@ -1,9 +1,8 @@
-//! What the programs of `make bench` have in common: the works that a command line names, and how long
-//! each took.
+//! What benches and soaks have in common: the works that a command line names, and how long each took.
 #![tactic(auto)]
 
 mod laps;
 mod words;
 
 pub use laps::{Lap, Laps, since};
-pub use words::{Work, tell, works};
+pub use words::{Bench, Work, benches, tell, works};

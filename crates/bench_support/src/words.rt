@@ -1,5 +1,5 @@
-//! The works of a command line. The word `then` separates two works; the word `timed` before a work requests
-//! nanoseconds too.
+//! The benches of a command line, and the works of each. The word `and` separates two benches, `then` two works; the
+//! word `timed` before a work requests nanoseconds too.
 
 use crate::laps::Lap;
 use anyhow::{Result, bail};
@@ -48,7 +48,7 @@ fn work_of(alloc: Global, words: &[String], timed: bool) -> Result<Work> {
 }
 
 /// Returns the works of these words.
-fn parted(alloc: Global, words: &[String]) -> Result<Vec<Work>> {
+fn works_of(alloc: Global, words: &[String]) -> Result<Vec<Work>> {
     let mut works = Vec::new(alloc);
     for words in words.split(|word| word.as_str() == "then") {
         let timed = words.first().is_some_and(|word| word.as_str() == "timed");
@@ -62,13 +62,47 @@ fn parted(alloc: Global, words: &[String]) -> Result<Vec<Work>> {
     Ok(works)
 }
 
-/// Returns the works of the command line, after the program's name.
-pub fn works(rt: &HostRuntime) -> Result<Vec<Work>> {
+/// Returns the words of the command line, after the program's name.
+fn command_line(rt: &HostRuntime) -> Result<Vec<String>> {
     let mut words = Vec::new(rt.alloc());
     for word in env::args(rt)?.skip(1) {
         words.push(word)?;
     }
-    parted(rt.alloc(), &words)
+    Ok(words)
+}
+
+/// Returns the works of the command line, of a program with one bench.
+pub fn works(rt: &HostRuntime) -> Result<Vec<Work>> {
+    let words = command_line(rt)?;
+    works_of(rt.alloc(), &words)
+}
+
+/// A bench, and the works that it does.
+#[derive(Drop)]
+pub struct Bench {
+    pub name: String,
+    pub works: Vec<Work>,
+}
+
+/// Returns the bench of these words, the first of which is its name.
+fn bench_of(alloc: Global, words: &[String]) -> Result<Bench> {
+    let Some((name, rest)) = words.split_first() else {
+        bail!("no bench is named");
+    };
+    Ok(Bench {
+        name: String::from_str(alloc, name.as_str())?,
+        works: works_of(alloc, rest)?,
+    })
+}
+
+/// Returns the benches of the command line.
+pub fn benches(rt: &HostRuntime) -> Result<Vec<Bench>> {
+    let words = command_line(rt)?;
+    let mut benches = Vec::new(rt.alloc());
+    for words in words.split(|word| word.as_str() == "and") {
+        benches.push(bench_of(rt.alloc(), words)?)?;
+    }
+    Ok(benches)
 }
 
 /// Prints what a work has done, with nanoseconds or without.

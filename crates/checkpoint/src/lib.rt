@@ -16,7 +16,7 @@ use heap::{Heap, RawCollectorEdits, RawEdits};
 use marker::mark;
 use model::{Answer, Phase, Refusal, Reply};
 use refword::Addr;
-use relocate::follow;
+use single_copies::follow;
 
 /// Marks the reference in a register, whose object is copied first if needed. Threads and registers count from 0.
 #[tactic(auto, unfolding(model::specs::Checkpoints::with_marked_register, model::specs::Checkpoints::with_marked_word))]

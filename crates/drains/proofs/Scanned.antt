@@ -33,7 +33,7 @@ use Rattle.forward.specs.Counts.{uncopied_count}
 use Rattle.page.proofs.Copied.{same_set}
 use Rattle.page.proofs.Runs.{words_keep}
 use Rattle.page.proofs.Untouched.{word_stays}
-use Rattle.relocate.proofs.Copied.{none_to_copy}
+use Rattle.single_copies.proofs.Entries.{none_to_copy}
 use Rattle.drains.specs.Drains.{refs_in, refs_at, marked_field, marked_fields, without_todo, scanned}
 
 -- ---- a word that is written

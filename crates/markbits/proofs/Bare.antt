@@ -7,9 +7,9 @@ use Rattle.std.proofs.lemmas.Bool.Decides.{nat_tests}
 use Rattle.std.proofs.lemmas.List.{set-get_or}
 use Rattle.std.proofs.lemmas.List.Sums.{sum_by-cons}
 use Rattle.std.proofs.lemmas.Option.{same_Some}
-use Rattle.model.specs.States.{change_at, change_found}
-use Rattle.model.specs.Bits.{bit_count, put_bit}
-use Rattle.model.proofs.Lists.{none_counted}
+use Rattle.sequences.specs.Elements.{change_at, change_found}
+use Rattle.sequences.specs.Bits.{bit_count, put_bit}
+use Rattle.sequences.proofs.Elements.{none_counted}
 use Rattle.markbits.proofs.Busy.{put_again}
 
 -- in a row that counts none

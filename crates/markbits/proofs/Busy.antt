@@ -7,9 +7,9 @@ use Rattle.std.specs.Prelude.{◌==◌}
 use Rattle.std.proofs.lemmas.List.{map-set, set-get_or}
 use Rattle.std.proofs.lemmas.List.Sums.{sum_by-cons}
 use Rattle.std.proofs.lemmas.Bool.Decides.{nat_tests}
-use Rattle.model.specs.States.{change_at, change_found}
-use Rattle.model.specs.Bits.{bit_count, put_bit}
-use Rattle.model.proofs.Lists.{get_set_same, as_number}
+use Rattle.sequences.specs.Elements.{change_at, change_found}
+use Rattle.sequences.specs.Bits.{bit_count, put_bit}
+use Rattle.sequences.proofs.Elements.{get_set_same, as_number}
 use Rattle.markbits.specs.Indexing.{has_bits, settle}
 
 -- the index of rows of which one is changed

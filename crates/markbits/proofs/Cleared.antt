@@ -5,7 +5,7 @@ use Rattle.std.proofs.Common.{cond, arith}
 use Rattle.std.proofs.lemmas.List.{length-replicate, length-append, append-nil}
 use Rattle.std.proofs.lemmas.List.Sums.{sum_by-append, sum_by-cons}
 use Rattle.std.proofs.Math.ListN.{length-set}
-use Rattle.model.specs.Bits.{blank_row}
+use Rattle.sequences.specs.Bits.{blank_row}
 use Rattle.markbits.specs.Cleared.{padded, AreThere}
 use Rattle.markbits.specs.Ranks.{rank_of}
 use Rattle.markbits.specs.Words.{set_count, IsNextPlace}

@@ -4,7 +4,7 @@ use Rattle.std.proofs.Common.{set, sym}
 use Rattle.std.proofs.Common.{◌∙◌, ap, arith, length-set}
 use Rattle.std.proofs.lemmas.List.{get_or_read, get_or-drop, take_more, take_more_set, map-append, drop-set-lt}
 use Rattle.std.proofs.lemmas.Grind.{drop_more_same}
-use Rattle.model.specs.Bits.{blank_row}
+use Rattle.sequences.specs.Bits.{blank_row}
 
 -- one step of a loop that blanks each row
 pub blank_more : (items old : List (List Bool)) (i : ℕ) (row cleared : List Bool)

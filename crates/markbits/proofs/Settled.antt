@@ -6,7 +6,7 @@ use Rattle.std.proofs.Math.ListN.{length-set}
 use Rattle.std.proofs.lemmas.Bool.{cases_eq}
 use Rattle.std.proofs.lemmas.List.{length-map}
 use Rattle.std.proofs.lemmas.Option.{slice_get-get_or}
-use Rattle.model.proofs.Lists.{same_lists, get_set_same, get_set_other}
+use Rattle.sequences.proofs.Elements.{same_lists, get_set_same, get_set_other}
 use Rattle.markbits.specs.Indexing.{has_bits, settle}
 
 get_map : (rows : List (List Bool)) (i : ℕ) (row : List Bool) → slice_get rows i ≡ Some row

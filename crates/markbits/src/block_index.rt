@@ -1,7 +1,7 @@
 //! The index of a long bitmap's blocks.
 
 ghost use Rattle.std.specs.Prelude.{◌≡◌, replicate, false, IfOk};
-ghost use Rattle.model.specs.Bits.{put_bit};
+ghost use Rattle.sequences.specs.Bits.{put_bit};
 ghost use Rattle.markbits.specs.Words.{IsNextPlace};
 
 use crate::word_row::WordRow;

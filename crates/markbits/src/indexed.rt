@@ -2,8 +2,8 @@
 
 ghost use Rattle.std.specs.Prelude.{◌≡◌, replicate, slice_get, slice_set, get_or, map, false, [], IfOk, ◌==◌};
 ghost use Rattle.std.specs.Option.{option_copied};
-ghost use Rattle.model.specs.States.{change_at};
-ghost use Rattle.model.specs.Bits.{put_bit, bit_on, bit_count};
+ghost use Rattle.sequences.specs.Elements.{change_at};
+ghost use Rattle.sequences.specs.Bits.{put_bit, bit_on, bit_count};
 ghost use Rattle.markbits.specs.Words.{IsNextPlace};
 ghost use Rattle.markbits.specs.Indexing.{has_bits, settle};
 

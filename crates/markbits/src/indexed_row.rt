@@ -1,7 +1,7 @@
 //! A bitmap with an index of its words that have a bit set.
 
 ghost use Rattle.std.specs.Prelude.{◌≡◌, ◌<◌, ◌^◌, replicate, slice_index_or, false, IfOk, count_by};
-ghost use Rattle.model.specs.Bits.{put_bit};
+ghost use Rattle.sequences.specs.Bits.{put_bit};
 ghost use Rattle.markbits.specs.Words.{IsNextPlace};
 ghost use Rattle.markbits.specs.Blocks.{IsIndex};
 

@@ -5,9 +5,8 @@ mod kept;
 ghost use Rattle.std.specs.Prelude.{◌≡◌, ◌-◌, ◌*◌, ◌/◌, ◌<◌, ◌≤◌, ◌^◌, length, replicate, take, slice_get};
 ghost use Rattle.std.specs.Prelude.{slice_index_or, slice_set, get_or, Some, map, true, false, [], IfOk, IfSome, count_by};
 ghost use Rattle.std.specs.Option.{option_copied};
-ghost use Rattle.model.specs.States.{change_at};
-ghost use Rattle.model.specs.declared.limits.TheConstants.{MOST_PAGES};
-ghost use Rattle.model.specs.Bits.{blank_row, put_bit, of_page, bit_on, bit_count};
+ghost use Rattle.sequences.specs.Elements.{change_at};
+ghost use Rattle.sequences.specs.Bits.{blank_row, put_bit, of_page, bit_on, bit_count};
 ghost use Rattle.markbits.specs.Words.{IsNextPlace};
 ghost use Rattle.std.specs.Borrow.{sem};
 ghost use Rattle.markbits.specs.Lending.{LendsRow};
@@ -342,9 +341,9 @@ impl Rows {
         }
     }
 
-    /// Returns how many bits are set in all bitmaps, of which there are at most 1,048,575.
+    /// Returns how many bits are set in all bitmaps, of which there are fewer than 2^32.
     pub fn count(&self) -> u64
-        requires { length self.now ≤ MOST_PAGES }
+        requires { length self.now < 2 ^ 32 }
         ensures { result ≡ bit_count self.now }
     {
         let rows = self.rows.len();

@@ -2,7 +2,7 @@
 
 ghost use Rattle.std.specs.Prelude.{◌≡◌, ℕ, ◌+◌, ◌-◌, ◌*◌, ◌/◌, ◌<◌, ◌≤◌, ◌^◌, length, replicate, take, slice_get};
 ghost use Rattle.std.specs.Prelude.{slice_index_or, false, true, [], IfOk, count_by};
-ghost use Rattle.model.specs.Bits.{blank_row, put_bit};
+ghost use Rattle.sequences.specs.Bits.{blank_row, put_bit};
 ghost use Rattle.markbits.specs.Words.{IsNextPlace};
 ghost use Rattle.markbits.specs.Blocks.{IsNextInBlock};
 ghost use Rattle.markbits.specs.Ranks.{rank_of};

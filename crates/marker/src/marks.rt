@@ -8,7 +8,7 @@ ghost use Rattle.model.specs.Scans.{may_scan};
 use heap::{Heap, RawCollectorEdits};
 use model::Refusal;
 use refword::Word;
-use relocate::copy_for;
+use single_copies::copy_for;
 
 /// Marks the object of a reference, and returns the corrected reference: it has the object's current address and the
 /// clean NMT value. An object of a protected page is copied first if it isn't copied. The object becomes grey if it

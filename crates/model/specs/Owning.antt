@@ -6,10 +6,7 @@ use Rattle.model.specs.declared.limits.TheConstants.{MOST_WORDS, MOST_FRAMES, MO
 use Rattle.model.specs.declared.records.Page.{Page}
 use Rattle.model.specs.declared.records.Buffer.{Buffer}
 use Rattle.model.specs.Stores.{StoreState, has_memory, is_protected, is_open, is_unused, page_at, state_in, record_count}
-
--- each element has the property
-abbrev pub Each : {X : Type 0} → List X → (X → Type 0) → Type 0
-Each {X} xs P = (i : ℕ) (x : X) → slice_get xs i ≡ Some x → P x
+pub use Rattle.sequences.specs.Elements.{Each}
 
 -- a page has a frame exactly if its state says so, and gave out no more words than it has
 pub record IsPage (words : ℕ) (p : Page) : Type 0 where

@@ -1,5 +1,5 @@
 -- The state of a heap, as plain data.
-use Rattle.std.specs.Prelude.{ℕ, Bool, List, Option, Some, None, slice_get, slice_set}
+use Rattle.std.specs.Prelude.{ℕ, Bool, List, Option, Some, None}
 use Rattle.model.specs.declared.config.Config.{Config}
 use Rattle.model.specs.declared.records.Buffer.{Buffer}
 use Rattle.model.specs.declared.records.Barrier.{Barrier}
@@ -9,6 +9,7 @@ use Rattle.model.specs.declared.records.Global.{Global}
 use Rattle.model.specs.declared.records.Phase.{Phase}
 use Rattle.model.specs.declared.records.Tally.{Tally}
 use Rattle.model.specs.Stores.{StoreState}
+pub use Rattle.sequences.specs.Elements.{change_found, change_at}
 
 -- null, or an address with its NMT bit
 abbrev pub Reference : Type 0
@@ -45,12 +46,3 @@ pub record HeapState : Type 0 where
 abbrev pub flat : {X : Type 0} → Option (Option X) → Option X
 flat None = None
 flat (Some o) = o
-
--- a list with the element of index i changed, which may be missing
-abbrev pub change_found : {X : Type 0} → List X → ℕ → Option X → (X → X) → List X
-change_found xs i None change = xs
-change_found xs i (Some x) change = slice_set xs i (change x)
-
--- a list with the element of an index changed, if it is there
-abbrev pub change_at : {X : Type 0} → List X → ℕ → (X → X) → List X
-change_at xs i change = change_found xs i (slice_get xs i) change

@@ -7,5 +7,4 @@ pub mod Settlement
 pub mod Planning
 pub mod Runs
 pub mod PageCopies
-pub mod Copied
 pub mod Together

@@ -1,24 +1,22 @@
--- Runs of entries that go to one target, and entries by their addresses.
+-- Runs of entries that go to one target.
 use Rattle.std.proofs.Common.{◌≡◌, ℕ, zero, suc, ◌+◌, ◌*◌, ◌/◌, ◌%◌, ◌<◌, ◌≤◌, Bool, true, false, cond, nat_eq, List}
 use Rattle.std.proofs.Common.{[], ◌∷◌}
-use Rattle.std.proofs.Common.{length, map, Option, Some, None, refl, sym, ◌∙◌, ap, subst, arith, div-add-mod', ◌-◌}
+use Rattle.std.proofs.Common.{length, map, Option, Some, None, refl, sym, ◌∙◌, ap, subst, arith, ◌-◌}
 use Rattle.std.proofs.Common.{get_or}
 use Rattle.std.specs.List.{slice_get}
 use Rattle.std.specs.Option.{IsSome}
 use Rattle.std.proofs.lemmas.Bool.{eqb-true}
 use Rattle.std.proofs.lemmas.Bool.Decides.{nat_tests}
-use Rattle.std.proofs.lemmas.Option.{same_Some, slice_get_within}
+use Rattle.std.proofs.lemmas.Option.{same_Some}
 use Rattle.model.specs.declared.records.Forwarding.{Forwarding}
 use Rattle.model.specs.States.{HeapState, change_at, change_found}
 use Rattle.model.specs.Bits.{of_page}
-use Rattle.model.specs.Marks.{entry_of, entry_at}
 use Rattle.model.specs.Emptying.{entry_on}
-use Rattle.model.specs.Moves.{with_copy, copied_by, copied_first, set_copied_of}
+use Rattle.model.specs.Moves.{with_copy, set_copied_of}
 use Rattle.model.specs.Stores.{is_from, state_at}
 use Rattle.model.proofs.Lists.{get_within}
 use Rattle.forward.specs.Noting.{place_of}
-use Rattle.forward.specs.Searching.{found_at}
-use Rattle.heap.specs.Runs.{with_entry, with_entries, GoTo}
+use Rattle.heap.specs.Runs.{with_entry, with_entries}
 use Rattle.relocate.specs.Runs.{goes_to, IsRun}
 
 -- an entry that exists has a target
@@ -76,52 +74,6 @@ run_more h n e end target count r l here = record {
         goes_there h.store.words target (slice_get side (e + count)) f here
         (sym (ap (λ j. slice_get side (e + j)) (eqb-true i count z)) ∙ at)
     by_test i f m at false z = r.together i f (grind (arith, nat_tests, m, z)) at
-
--- one entry is a run
-pub one_goes : (h : HeapState) (n e target : ℕ) (f : Forwarding) → slice_get (of_page h.sides n) e ≡ Some f
-    → target ≡ f.to / h.store.words → GoTo h.store.words target (of_page h.sides n) e 1
-one_goes h n e target f at is i g l there =
-    let same : e + i ≡ e = omega (arith, l) in
-    ap (λ (x : Forwarding). x.to / h.store.words)
-    (same_Some _ _ (sym there ∙ ap (slice_get (of_page h.sides n)) same ∙ at)) ∙ sym is
-
-pub one_within : (h : HeapState) (n e : ℕ) (f : Forwarding) → slice_get (of_page h.sides n) e ≡ Some f
-    → e + 1 ≤ length (of_page h.sides n)
-one_within h n e f at = omega (arith, slice_get_within (of_page h.sides n) e f at)
-
--- entries by their offsets
-
-offset_of : (fs : List Forwarding) (o : ℕ) (f : Forwarding) → entry_of fs o ≡ Some f → f.offset ≡ o
-offset_of [] o f e = absurd (cc)
-offset_of (x ∷ fs) o f e = by_test (λ k. offset_of fs o f k) (nat_eq x.offset o) refl e
-  where
-    by_test : (entry_of fs o ≡ Some f → f.offset ≡ o) → (b : Bool) → nat_eq x.offset o ≡ b
-        → cond b (Some x) (entry_of fs o) ≡ Some f → f.offset ≡ o
-    by_test rest true z k = sym (ap (λ (y : Forwarding). y.offset) (same_Some _ _ k)) ∙ eqb-true x.offset o z
-    by_test rest false z k = rest k
-
-pub none_first : (h : HeapState) (a : ℕ)
-    → entry_of (of_page h.sides (a / h.store.words)) (a % h.store.words)
-    ≡ found_at (of_page h.sides (a / h.store.words)) None → h ≡ copied_first h a
-unfolding copied_first entry_at
-none_first h a e = sym (ap (copied_by h a) e)
-
-pub entry_first : (h : HeapState) (a i : ℕ)
-    → entry_of (of_page h.sides (a / h.store.words)) (a % h.store.words)
-    ≡ found_at (of_page h.sides (a / h.store.words)) (Some i)
-    → with_entry h (a / h.store.words) (slice_get (of_page h.sides (a / h.store.words)) i) ≡ copied_first h a
-unfolding copied_first entry_at
-entry_first h a i e = by_entry (slice_get (of_page h.sides (a / h.store.words)) i) e
-  where
-    by_entry : (o : Option Forwarding) → entry_of (of_page h.sides (a / h.store.words)) (a % h.store.words) ≡ o
-        → with_entry h (a / h.store.words) o
-        ≡ copied_by h a (entry_of (of_page h.sides (a / h.store.words)) (a % h.store.words))
-    by_entry None z = sym (ap (copied_by h a) z)
-    by_entry (Some f) z =
-        let at = offset_of (of_page h.sides (a / h.store.words)) (a % h.store.words) f z in
-        ap (λ o. copied_by h (a / h.store.words * h.store.words + o) (Some f)) at
-        ∙ ap (λ m. copied_by h m (Some f)) (div-add-mod' a h.store.words)
-        ∙ sym (ap (copied_by h a) z)
 
 -- an entry that wasn't copied
 pub entry_copied : (h : HeapState) (n e : ℕ) (f : Forwarding) → entry_on h n e ≡ Some f → f.copied ≡ false

@@ -12,7 +12,7 @@ mod settling;
 mod targets;
 mod whole;
 
-pub use copying::{copy, copy_for, follow};
+pub use copying::copy;
 pub use drafting::measured_objects;
 pub use many::copy_pages_by;
 pub use page::PieceGate;

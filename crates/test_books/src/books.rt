@@ -2,12 +2,11 @@
 
 use crate::same::same;
 use cycle::{Actor, Answer, Book, Entry, Step, run};
-use heap::{Config, ConfigFault, NewFault, Refusal};
+use heap::Refusal;
 use std::alloc::{AllocError, Global};
 use std::process::Abort;
 use std::test::Fail;
 use test_support_books::{HeldBook, act, small_book};
-use test_support_samples::small;
 
 /// The reply to a step.
 type Reply = Result<Answer, Refusal>;
@@ -16,8 +15,6 @@ type Reply = Result<Answer, Refusal>;
 type Row = (Actor, Step, Reply);
 
 const FIRST: Actor = Actor::Thread(0);
-
-const SECOND: Actor = Actor::Thread(1);
 
 /// An object of the one layout.
 fn new(target: u32) -> Step {
@@ -153,97 +150,4 @@ fn accepted(alloc: Global, mut held: impl HeldBook + Drop, rows: Vec<Row>) -> Re
 fn a_run_is_accepted(rt: HostRuntime) -> Result<(), Fail> {
     let rows = page_of_objects(rt.alloc())?;
     accepted(rt.alloc(), small_book(rt.alloc())?, rows)
-}
-
-/// Steps with an actor or a number that names nothing, on a heap with two registers and one layout.
-fn bad_steps(alloc: Global) -> Result<Vec<Row>, AllocError> {
-    Ok(vec![in alloc;
-        (SECOND, Step::Take(0), Err(Refusal::NoActor)),
-        (FIRST, Step::StartMark, Err(Refusal::NoActor)),
-        (FIRST, Step::Take(0), Err(Refusal::BadIndex)),
-        (FIRST, Step::Take(17), Err(Refusal::BadIndex)),
-        (
-            FIRST,
-            Step::New {
-                target: 0,
-                layout: 1
-            },
-            Err(Refusal::BadIndex)
-        ),
-        (
-            FIRST,
-            Step::LoadGlobal {
-                target: 0,
-                global: 0
-            },
-            Err(Refusal::BadIndex)
-        ),
-        (
-            FIRST,
-            Step::Same { left: 0, right: 2 },
-            Err(Refusal::BadIndex)
-        ),
-        (FIRST, Step::Scrub(2), Err(Refusal::BadIndex)),
-        (Actor::Worker(0), Step::GiveBack, Err(Refusal::NoActor)),
-    ]?)
-}
-
-/// Does the steps of the rows on a new recorded heap, which has `entries` entries then.
-fn plays(rt: &impl Abort, mut held: impl HeldBook + Drop, rows: Vec<Row>, entries: usize) {
-    let book = held.book();
-    play(rt, book, rows);
-    same(rt, book.history().len(), entries);
-}
-
-#[test]
-fn numbers_that_name_nothing(rt: HostRuntime) -> Result<(), Fail> {
-    let rows = bad_steps(rt.alloc())?;
-    plays(&rt, small_book(rt.alloc())?, rows, 0);
-    Ok(())
-}
-
-/// One birth, and three entries.
-fn limits(alloc: Global) -> Result<Config, AllocError> {
-    let mut config = small(alloc)?;
-    config.births = 1;
-    config.history = 3;
-    Ok(config)
-}
-
-fn limit_rows(alloc: Global) -> Result<Vec<Row>, AllocError> {
-    Ok(vec![in alloc;
-        (
-            FIRST,
-            Step::Take(16),
-            Ok(Answer::Lent { page: 1, offset: 0 })
-        ),
-        (FIRST, new(0), Ok(Answer::Birth(0))),
-        (FIRST, new(1), Err(Refusal::Births)),
-        (FIRST, Step::IsNull(1), Ok(Answer::Truth(true))),
-        (FIRST, Step::IsNull(1), Err(Refusal::HistoryFull)),
-        (SECOND, Step::IsNull(1), Err(Refusal::HistoryFull)),
-    ]?)
-}
-
-#[test]
-fn limits_are_kept(rt: HostRuntime) -> Result<(), Fail> {
-    let rows = limit_rows(rt.alloc())?;
-    plays(&rt, Book::new(rt.alloc(), limits(rt.alloc())?)?, rows, 3);
-    Ok(())
-}
-
-/// Returns the field for which no recorded heap can be made.
-fn told(alloc: Global, config: Config) -> Option<ConfigFault> {
-    match Book::new(alloc, config).err() {
-        Some(NewFault::Config(fault)) => Some(fault),
-        _ => None,
-    }
-}
-
-#[test]
-fn a_fault_is_told(rt: HostRuntime) -> Result<(), Fail> {
-    let mut config = small(rt.alloc())?;
-    config.registers = 65_536;
-    same(&rt, told(rt.alloc(), config), Some(ConfigFault::Registers));
-    Ok(())
 }

@@ -1,4 +1,4 @@
-//! Which number of a call names nothing, and policies that are out of their range.
+//! Which number of a store names nothing, and texts of faults.
 
 use crate::faults::tells;
 use crate::heaps::new_heap;
@@ -20,18 +20,11 @@ const NOWHERE: u32 = 16;
 trait Faulty: Collect {
     /// Returns the fault of a step that is rejected with this error.
     fn fault_of(&self, step: &Step, refusal: Refusal) -> CallFault;
-
-    /// Returns whether a policy is in range.
-    fn check(&self, policy: Policy) -> Result<(), PolicyFault>;
 }
 
 impl Faulty for ManagedHeap {
     fn fault_of(&self, step: &Step, refusal: Refusal) -> CallFault {
         CallFault::of_step(self.heap(), step, refusal)
-    }
-
-    fn check(&self, policy: Policy) -> Result<(), PolicyFault> {
-        policy.check(self.heap().config())
     }
 }
 
@@ -74,63 +67,6 @@ fn all_stores(rt: &impl Abort, alloc: Global, heap: &mut impl Faulty) {
 fn of_a_store(rt: HostRuntime) {
     let mut heap = new_heap(&rt, rt.alloc(), 4, 8);
     all_stores(&rt, rt.alloc(), &mut heap);
-}
-
-/// A step fails with `BadIndex` for this number.
-fn names(rt: &impl Abort, heap: &impl Faulty, step: Step, wanted: CallFault) {
-    same(rt, heap.fault_of(&step, Refusal::BadIndex), wanted);
-}
-
-fn all_steps(rt: &impl Abort, heap: &impl Faulty) {
-    let (target, layout, global, index) = (HERE, 1, 64, 1);
-    let new = Step::New { target, layout };
-    let load = Step::Load {
-        target,
-        object: NOWHERE,
-        field: 0,
-    };
-    let loadg = Step::LoadGlobal { target, global };
-    let object = HERE;
-    let datum = Step::Datum { object, index };
-    let register = CallFault::Wrong(Number::Register);
-    names(rt, heap, Step::Take(17), CallFault::Wrong(Number::Words));
-    names(rt, heap, new, CallFault::Wrong(Number::Layout));
-    names(rt, heap, load, register);
-    names(rt, heap, loadg, CallFault::Wrong(Number::Global));
-    names(rt, heap, datum, CallFault::Wrong(Number::Datum));
-    names(rt, heap, Step::ClearReg(NOWHERE), register);
-    names(rt, heap, Step::GiveBack, CallFault::Index);
-}
-
-#[test]
-fn of_each_step(rt: HostRuntime) {
-    let heap = new_heap(&rt, rt.alloc(), 4, 8);
-    all_steps(&rt, &heap);
-}
-
-/// Policies are out of their range by these fields, or in range.
-fn all_policies(rt: &impl Abort, heap: &impl Faulty) {
-    for (words, free, percent, wanted) in [
-        (16, 4, 100, Ok(())),
-        (1, 0, 0, Ok(())),
-        (0, 5, 101, Err(PolicyFault::Words)),
-        (17, 0, 0, Err(PolicyFault::Words)),
-        (16, 5, 101, Err(PolicyFault::Free)),
-        (16, 4, 101, Err(PolicyFault::Percent)),
-    ] {
-        let policy = Policy {
-            words,
-            free,
-            percent,
-        };
-        same(rt, heap.check(policy), wanted);
-    }
-}
-
-#[test]
-fn policies(rt: HostRuntime) {
-    let heap = new_heap(&rt, rt.alloc(), 4, 8);
-    all_policies(&rt, &heap);
 }
 
 #[test]

@@ -1,11 +1,9 @@
-//! The tests of the heap: its first state, the calls of its threads and workers, and marks in waves, whose results are
-//! those of a drain by one thread.
+//! The tests of the heap: the calls of its threads and workers, and marks in waves, whose results are those of a drain
+//! by one thread.
 #![tactic(auto)]
 
 #[cfg(test)]
 mod at_once;
-#[cfg(test)]
-mod beginnings;
 #[cfg(test)]
 mod choices;
 #[cfg(test)]

@@ -1,12 +1,11 @@
 //! A store of pages, and the places of its buffers.
 
 use crate::same::{done, same, same_at};
-use crate::sides::{live, side_of};
+use crate::sides::side_of;
 use forward::Side;
 use layout::{Layout, Layouts};
 use model::{Buffer, PageState, Room};
-use page::Store;
-use refword::Addr;
+use page::{Store, many};
 use std::alloc::{AllocError, Global};
 use std::process::Abort;
 use std::test::Fail;
@@ -92,10 +91,15 @@ fn takes_lowest(rt: &impl Abort, store: &mut Store) -> Result<(), AllocError> {
     taken
 }
 
+/// The same in a new store.
+fn takes_in_a_new_store(rt: &impl Abort, alloc: Global) -> Result<(), AllocError> {
+    let mut store = Store::new(alloc, 16, 2, 8)?;
+    takes_lowest(rt, &mut store)
+}
+
 #[test]
 fn takes_in_the_lowest_page(rt: HostRuntime) -> Result<(), Fail> {
-    let mut store = Store::new(rt.alloc(), 16, 2, 8)?;
-    Ok(takes_lowest(&rt, &mut store)?)
+    Ok(takes_in_a_new_store(&rt, rt.alloc())?)
 }
 
 /// A buffer is given back, and the words of its page after it can be taken.
@@ -113,41 +117,19 @@ fn what_is_given_back_is_lost(rt: HostRuntime) {
     gives_back(&rt, &mut store);
 }
 
-/// Takes buffers as `takes` does from a new store, after which no word can be taken.
-fn fills(rt: &impl Abort, store: &mut Store, rows: &[(u32, u32, u32)], room: Room, free: u32) {
+/// A store gives these buffers, as for `takes`; then no word can be taken.
+fn fills(rt: &impl Abort, store: &mut Store, rows: &[(u32, u32, u32)], full: (Room, u32)) {
+    let (room, free) = full;
     takes(rt, store, rows);
     is_full(rt, store, room, free);
 }
 
+/// In the second store, buffers go to lower pages that have space.
 #[test]
-fn refuses_for_want_of_pages(rt: HostRuntime) {
-    let mut store = done(&rt, Store::new(rt.alloc(), 16, 2, 1));
-    fills(&rt, &mut store, &[(16, 1, 0)], Room::NoPages, 1);
-}
-
-/// Takes a buffer of `n` words in each of the pages 1 to 300.
-fn takes_in_each(rt: &impl Abort, store: &mut Store, n: u32, next: u32) {
-    for page in 1..301 {
-        takes(rt, store, &[(n, page, next)]);
-    }
-}
-
-/// Each first buffer leaves one word, so that the next needs a page of its own; then the words that were left are
-/// taken from the lowest page on.
-fn fills_pages(rt: &impl Abort, store: &mut Store) {
-    takes_in_each(rt, store, 15, 0);
-    takes_in_each(rt, store, 1, 15);
-    is_full(rt, store, Room::NoFrames, 0);
-}
-
-#[test]
-fn fills_many_pages(rt: HostRuntime) {
-    let mut store = done(&rt, Store::new(rt.alloc(), 16, 300, 700));
-    fills_pages(&rt, &mut store);
-}
-
-#[test]
-fn takes_in_a_lower_page_that_has_room(rt: HostRuntime) {
+fn stores_get_full(rt: HostRuntime) {
+    let mut small = done(&rt, Store::new(rt.alloc(), 16, 2, 1));
+    let mut large = done(&rt, Store::new(rt.alloc(), 16, 5, 5));
+    fills(&rt, &mut small, &[(16, 1, 0)], (Room::NoPages, 1));
     let rows = [
         (10, 1, 0),
         (12, 2, 0),
@@ -160,8 +142,24 @@ fn takes_in_a_lower_page_that_has_room(rt: HostRuntime) {
         (16, 5, 0),
         (15, 4, 1),
     ];
-    let mut store = done(&rt, Store::new(rt.alloc(), 16, 5, 5));
-    fills(&rt, &mut store, &rows, Room::NoFrames, 0);
+    fills(&rt, &mut large, &rows, (Room::NoFrames, 0));
+}
+
+/// Takes a buffer of `n` words in each of the pages 1 to 300.
+fn takes_in_each(rt: &impl Abort, store: &mut Store, n: u32, next: u32) {
+    for page in 1..301 {
+        takes(rt, store, &[(n, page, next)]);
+    }
+}
+
+/// Each first buffer leaves one word, so that the next needs a page of its own; then the words that were left are
+/// taken from the lowest page on.
+#[test]
+fn fills_many_pages(rt: HostRuntime) {
+    let mut store = done(&rt, Store::new(rt.alloc(), 16, 300, 700));
+    takes_in_each(&rt, &mut store, 15, 0);
+    takes_in_each(&rt, &mut store, 1, 15);
+    is_full(&rt, &mut store, Room::NoFrames, 0);
 }
 
 /// Also writes past the ends of two buffers of page 1.
@@ -207,18 +205,8 @@ fn counts(rt: &impl Abort, store: &mut Store) {
     }
 }
 
-/// Objects that go to places on page 2, past its end, inside and further inside; the last from past the end of its
-/// own.
-fn three(rt: &impl Abort, alloc: Global) -> Side {
-    let mut places = Vec::new(alloc);
-    for offset in [14, 1, 8] {
-        let place = done(rt, Addr::new(2 * 16 + offset).ok_or("no address"));
-        done(rt, places.push(place));
-    }
-    side_of(rt, alloc, live(rt, alloc, &[0, 2, 14]), places)
-}
-
-/// Objects of three words are copied between pages, if both places exist, and nowhere else.
+/// Objects of three words are copied between pages, if both places exist, and nowhere else. They go to places on page
+/// 2, past its end, inside and further inside; the last from past the end of its own.
 fn copies(rt: &impl Abort, store: &mut Store, side: &Side, layouts: &Layouts) {
     assert!(rt; side.len() == 3);
     store.copy_entries(1, 2, side, layouts, 0, 3);
@@ -231,12 +219,32 @@ fn copies(rt: &impl Abort, store: &mut Store, side: &Side, layouts: &Layouts) {
     same(rt, store.words(2), Some(target.as_slice()));
 }
 
+/// Makes the objects' layout and forwarding table, and copies the objects.
+fn copies_three(rt: &impl Abort, alloc: Global, store: &mut Store) {
+    let layouts = Layouts::new(done(rt, many(alloc, 1, Layout { refs: 0, nums: 2 })));
+    let side = side_of(
+        rt,
+        alloc,
+        &[0, 2, 14],
+        &[2 * 16 + 14, 2 * 16 + 1, 2 * 16 + 8],
+    );
+    copies(rt, store, &side, &layouts);
+}
+
 #[test]
 fn objects_are_copied_between_pages(rt: HostRuntime) {
-    let layouts = vec![in rt.alloc(); Layout { refs: 0, nums: 2 }];
-    let layouts = Layouts::new(done(&rt, layouts));
-    let side = three(&rt, rt.alloc());
     let mut store = done(&rt, Store::new(rt.alloc(), 16, 2, 8));
     counts(&rt, &mut store);
-    copies(&rt, &mut store, &side, &layouts);
+    copies_three(&rt, rt.alloc(), &mut store);
+}
+
+#[test]
+fn copies_of_an_item(rt: HostRuntime) -> Result<(), Fail> {
+    same(
+        &rt,
+        many(rt.alloc(), 3, 7u32)?.as_slice(),
+        [7, 7, 7].as_slice(),
+    );
+    same(&rt, many(rt.alloc(), 0, 7u32)?.len(), 0);
+    Ok(())
 }

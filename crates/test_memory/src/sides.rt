@@ -1,4 +1,4 @@
-//! Plans compared with a loop that places objects by hand, and forwarding tables.
+//! Plans, and forwarding tables.
 
 use crate::same::{done, same, same_at};
 use forward::{Plan, Side, Sides};
@@ -6,18 +6,6 @@ use markbits::Row;
 use refword::Addr;
 use std::alloc::Global;
 use std::process::Abort;
-use test_support_samples::scatter;
-
-/// Returns `count` pseudorandom sizes, from 1 on.
-fn sizes(rt: &impl Abort, alloc: Global, count: u32, most: u32) -> Vec<u32> {
-    let mut sizes = Vec::new(alloc);
-    let mut number = u64::from(most);
-    for _ in 0..count {
-        number = scatter(number);
-        done(rt, sizes.push((number >> 33) as u32 % most.max(1) + 1));
-    }
-    sizes
-}
 
 /// The target and the offset of an object in a plan.
 fn place(plan: &Plan, index: usize) -> Option<(usize, u32)> {
@@ -25,19 +13,14 @@ fn place(plan: &Plan, index: usize) -> Option<(usize, u32)> {
     Some((slot.target(), slot.offset()))
 }
 
-/// A plan has these places and no more.
-fn has_places(rt: &impl Abort, plan: &Plan, places: &[(usize, u32)], targets: usize) {
-    for (index, wanted) in places.iter().enumerate() {
-        same_at(rt, index, place(plan, index), Some(*wanted));
-    }
-    same(rt, place(plan, places.len()), None);
-    same(rt, (plan.len(), plan.targets()), (places.len(), targets));
-}
-
 /// A plan of objects of these sizes, on pages of 16 words, has these places and no more.
 fn places(rt: &impl Abort, alloc: Global, sizes: &[u32], places: &[(usize, u32)], targets: usize) {
     let plan = done(rt, Plan::new(alloc, 16, sizes));
-    has_places(rt, &plan, places, targets);
+    for (index, wanted) in places.iter().enumerate() {
+        same_at(rt, index, place(&plan, index), Some(*wanted));
+    }
+    same(rt, place(&plan, places.len()), None);
+    same(rt, (plan.len(), plan.targets()), (places.len(), targets));
 }
 
 /// In the last, an object that would fit into an earlier target goes after the last one.
@@ -53,42 +36,14 @@ fn small_plans(rt: HostRuntime) {
     places(&rt, alloc, &[10, 12, 5, 4, 6], &behind, 3);
 }
 
-/// Each object follows the one before it, or is at the beginning of the next target if the rest of the present one is
-/// too small.
-fn follows(rt: &impl Abort, plan: &Plan, words: u32, sizes: &[u32]) {
-    let mut target = 0usize;
-    let mut rest = words;
-    for (index, size) in sizes.iter().enumerate() {
-        if *size > rest {
-            target = target.saturating_add(1);
-            rest = words;
-        }
-        let offset = words.saturating_sub(rest);
-        same_at(rt, index, place(plan, index), Some((target, offset)));
-        rest = rest.saturating_sub(*size);
-    }
-    same(rt, plan.len(), sizes.len());
-    same(rt, plan.targets(), target.saturating_add(1));
-}
-
-/// A plan of 2,000 objects, on pages of a number of words.
-fn plans(rt: &impl Abort, alloc: Global, words: u32, most: u32) {
-    let sizes = sizes(rt, alloc, 2000, most);
-    let plan = done(rt, Plan::new(alloc, words, &sizes));
-    follows(rt, &plan, words, &sizes);
-}
-
-#[test]
-fn plans_beside_a_loop(rt: HostRuntime) {
-    for (words, most) in [(16, 16), (16, 5), (64, 33), (512, 512), (4096, 256)] {
-        plans(&rt, rt.alloc(), words, most);
-    }
-}
-
+/// Offsets of objects on a page of 16 words.
 const OFFSETS: [u32; 5] = [0, 3, 4, 9, 15];
 
+/// Where they go: to both sides of 2^32, and back.
+const FAR: [u64; 5] = [40, 4_294_967_295, 4_294_967_296, 17_179_869_191, 96];
+
 /// Returns a bitmap of 16 places, of which these are set.
-pub fn live(rt: &impl Abort, alloc: Global, offsets: &[u32]) -> Row {
+fn live(rt: &impl Abort, alloc: Global, offsets: &[u32]) -> Row {
     let mut live = done(rt, Row::new(alloc, 16));
     for offset in offsets {
         live.put(*offset as usize, true);
@@ -96,43 +51,57 @@ pub fn live(rt: &impl Abort, alloc: Global, offsets: &[u32]) -> Row {
     live
 }
 
-/// Returns a forwarding table for a page's bitmap, with a place for each object.
-pub fn side_of(rt: &impl Abort, alloc: Global, live: Row, places: Vec<Addr>) -> Side {
+/// Returns the addresses of these numbers.
+fn addresses(rt: &impl Abort, alloc: Global, numbers: &[u64]) -> Vec<Addr> {
+    let mut places = Vec::new(alloc);
+    for number in numbers {
+        let place = done(rt, Addr::new(*number).ok_or("no address"));
+        done(rt, places.push(place));
+    }
+    places
+}
+
+/// Returns the forwarding table of objects at these offsets of a page of 16 words, which go to these addresses.
+pub fn side_of(rt: &impl Abort, alloc: Global, offsets: &[u32], numbers: &[u64]) -> Side {
+    let live = live(rt, alloc, offsets);
+    let places = addresses(rt, alloc, numbers);
     if live.len() > 32_768 || live.count() != places.len() {
         panic!(rt; "another row");
     }
     done(rt, Side::new(alloc, live, places))
 }
 
-/// A forwarding table of objects at these offsets, of which the one at 4 is copied.
-fn five(rt: &impl Abort, alloc: Global, to: u64) -> Side {
-    let to = done(rt, Addr::new(to).ok_or("no address"));
-    let places = done(rt, vec![in alloc; to; OFFSETS.len()]);
-    let mut side = side_of(rt, alloc, live(rt, alloc, &OFFSETS), places);
-    side.set_copied(4);
-    side
+/// Offset and new address of an entry, its new address alone, and its number by its offset.
+fn entry(side: &Side, index: usize) -> Option<(u32, u64, u64, u32)> {
+    let entry = side.entry(index)?;
+    let place = side.place(index)?.number();
+    let number = side.number_of(entry.offset)?;
+    Some((entry.offset, entry.to.number(), place, number))
+}
+
+/// The entries have these numbers, from 0, and there are no more.
+fn has_entries(rt: &impl Abort, side: &Side) {
+    for number in 0..5 {
+        let index = number as usize;
+        let (offset, to) = (OFFSETS[index], FAR[index]);
+        let wanted = Some((offset, to, to, number));
+        same_at(rt, index, entry(side, index), wanted);
+    }
+    same(rt, (side.len(), entry(side, 5)), (5, None));
 }
 
 /// What is found at offsets, and between and after them.
-fn finds(rt: &impl Abort, side: &Side, offsets: &[u32]) {
+fn finds(rt: &impl Abort, side: &Side) {
     for offset in 0..20 {
         let found = side.find(offset).map(|entry| entry.offset);
-        let wanted = if offsets.contains(&offset) {
+        let wanted = if OFFSETS.contains(&offset) {
             Some(offset)
         } else {
             None
         };
         same_at(rt, offset, found, wanted);
     }
-    for (index, offset) in offsets.iter().enumerate() {
-        let found = side.entry(index).map(|entry| entry.offset);
-        same_at(rt, index, found, Some(*offset));
-    }
-    same(
-        rt,
-        (side.len(), side.entry(offsets.len())),
-        (offsets.len(), None),
-    );
+    has_entries(rt, side);
 }
 
 /// One object after another is copied; what has no entry, and what is copied, changes nothing.
@@ -154,56 +123,20 @@ fn copies(rt: &impl Abort, side: &mut Side) {
     assert!(rt; side.is_copied());
 }
 
+/// The object at offset 4 is copied first.
 #[test]
 fn a_side_array(rt: HostRuntime) {
-    let mut side = five(&rt, rt.alloc(), 32);
-    finds(&rt, &side, &OFFSETS);
+    let mut side = side_of(&rt, rt.alloc(), &OFFSETS, &FAR);
+    side.set_copied(4);
+    finds(&rt, &side);
     copies(&rt, &mut side);
-    finds(&rt, &side, &OFFSETS);
+    finds(&rt, &side);
 }
 
 #[test]
 fn a_side_array_of_nothing(rt: HostRuntime) {
     let side = Side::empty(rt.alloc());
-    finds(&rt, &side, &[]);
-    assert!(rt; side.is_copied());
-}
-
-/// Offsets of objects, and where they go: to both sides of 2^32, and back.
-const FAR: [(u32, u64); 5] = [
-    (0, 40),
-    (3, 4_294_967_295),
-    (4, 4_294_967_296),
-    (9, 17_179_869_191),
-    (15, 96),
-];
-
-/// The objects of a forwarding table go there, by their offsets and by their numbers.
-fn goes_far(rt: &impl Abort, side: &Side) {
-    for (index, wanted) in FAR.iter().enumerate() {
-        let (offset, to) = *wanted;
-        let found = side.find(offset).map(|entry| entry.to.number());
-        same_at(rt, index, found, Some(to));
-        let entry = side
-            .entry(index)
-            .map(|entry| (entry.offset, entry.to.number()));
-        same_at(rt, index, entry, Some(*wanted));
-        let place = side.place(index).map(|place| place.number());
-        same_at(rt, index, place, Some(to));
-    }
-    same(rt, side.place(FAR.len()), None);
-}
-
-#[test]
-fn a_side_array_of_far_places(rt: HostRuntime) {
-    let alloc = rt.alloc();
-    let mut places = Vec::new(alloc);
-    for (_offset, to) in FAR {
-        let place = done(&rt, Addr::new(to).ok_or("no address"));
-        done(&rt, places.push(place));
-    }
-    let side = side_of(&rt, alloc, live(&rt, alloc, &OFFSETS), places);
-    goes_far(&rt, &side);
+    same(&rt, (side.len(), side.is_copied()), (0, true));
 }
 
 const PAGES: [u32; 6] = [0, 1, 2, 3, 4, u32::MAX];
@@ -223,11 +156,18 @@ fn copied(sides: &Sides) -> [bool; 6] {
     PAGES.map(|page| sides.is_copied(page))
 }
 
+/// A page gets a forwarding table of five objects, which all go to one place, and of which the one at 4 is copied.
+fn put_five(rt: &impl Abort, alloc: Global, sides: &mut Sides, index: usize, to: u64) {
+    let mut side = side_of(rt, alloc, &OFFSETS, &[to; 5]);
+    side.set_copied(4);
+    sides.put(index, side);
+}
+
 /// Pages 1 and 3 of three are protected; there is no page 10. The objects of each go to one place.
 fn protects(rt: &impl Abort, alloc: Global, sides: &mut Sides) {
     same(rt, (sides.uncopied(), copied(sides)), (0, [true; 6]));
     for (index, to) in [(0, 32), (2, 48), (9, 96)] {
-        sides.put(index, five(rt, alloc, to));
+        put_five(rt, alloc, sides, index, to);
     }
     is_protected(rt, sides);
 }
@@ -281,6 +221,6 @@ fn side_arrays_of_pages(rt: HostRuntime) {
     let mut sides = done(&rt, Sides::new(rt.alloc(), 3));
     protects(&rt, rt.alloc(), &mut sides);
     copies_of_pages(&rt, &mut sides);
-    sides.put(0, five(&rt, rt.alloc(), 64));
+    put_five(&rt, rt.alloc(), &mut sides, 0, 64);
     clears(&rt, &mut sides);
 }

@@ -1,17 +1,14 @@
-//! Opening recorded heaps and choosing pages when out of memory: the recorded heap is returned as it was, and the
-//! same call is done when it is repeated. These tests are run with each of their allocations failing in turn, and
-//! then fail as out of memory.
+//! Opening a recorded heap when out of memory: it is returned as it was, and opens when the call is repeated. This test
+//! is run with each of its allocations failing in turn, and then fails as out of memory.
 
 use crate::same::same;
-use choosing::choose;
 use cycle::Book;
-use heap::Heap;
 use parser::Script;
 use sharing::{Seat, Shared, settle};
 use std::alloc::{AllocError, Global};
 use std::process::Abort;
 use std::test::Fail;
-use test_support_books::{FULL, HEAD, HeldBook, MARKED, act_all, book_of, image_of, script_of};
+use test_support_books::{HEAD, MARKED, act_all, book_of, image_of, script_of};
 
 /// A recorded heap that can be opened.
 trait Opening: Sized {
@@ -90,38 +87,4 @@ fn a_book_is_opened(rt: HostRuntime) -> Result<(), Fail> {
     let script = script_of(rt.alloc(), &[HEAD, MARKED])?;
     opens_behind(&rt, rt.alloc(), book_of(rt.alloc(), &script)?, &script)?;
     Ok(())
-}
-
-/// The first page of a heap is chosen. If out of memory, the heap is as it was.
-fn chooses(rt: &impl Abort, alloc: Global, heap: &Heap) -> Result<(), AllocError> {
-    let before = image_of(alloc, heap)?;
-    let chosen = choose(alloc, heap, 100);
-    if let Ok(pages) = chosen {
-        same(rt, pages.as_slice(), [1].as_slice());
-        return Ok(());
-    }
-    let after = image_of(alloc, heap)?;
-    same(rt, after.as_str(), before.as_str());
-    let pages = choose(alloc, heap, 100)?;
-    same(rt, pages.as_slice(), [1].as_slice());
-    Err(AllocError)
-}
-
-/// The same for a recorded heap after a script's steps.
-fn chooses_behind(
-    rt: &impl Abort,
-    alloc: Global,
-    mut held: impl HeldBook + Drop,
-    script: &Script,
-) -> Result<(), Fail> {
-    let book = held.book();
-    act_all(alloc, book, script)?;
-    chooses(rt, alloc, book.heap())?;
-    Ok(())
-}
-
-#[test]
-fn pages_are_chosen(rt: HostRuntime) -> Result<(), Fail> {
-    let script = script_of(rt.alloc(), &[HEAD, FULL])?;
-    chooses_behind(&rt, rt.alloc(), book_of(rt.alloc(), &script)?, &script)
 }

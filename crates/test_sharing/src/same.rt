@@ -1,5 +1,4 @@
-//! Assertions that two values are equal. An assertion in a test takes some seconds of proof, a call of one here next
-//! to none.
+//! Assertions. Written out, an assertion or a `?` in a test takes seconds of proof; a call of one here next to none.
 
 use std::fmt::{Debug, Display};
 use std::process::Abort;
@@ -17,4 +16,12 @@ pub fn same_at<P: Display + Drop, T: PartialEq + Debug + Drop>(
     wanted: T,
 ) {
     assert_eq!(rt; found, wanted, "at {place}");
+}
+
+/// Asserts that a call succeeded, and returns its value.
+pub fn done<T, E: Debug + Drop>(rt: &impl Abort, found: Result<T, E>) -> T {
+    match found {
+        Ok(value) => value,
+        Err(error) => panic!(rt; "error: {error:?}"),
+    }
 }

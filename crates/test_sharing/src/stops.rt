@@ -1,11 +1,11 @@
 //! Stopping shared recorded heaps, and waiting for a step that stalls.
 
-use crate::same::same;
+use crate::same::{done, same};
 use cycle::{Actor, Answer, Reply, Step};
 use model::Refusal;
 use parser::Script;
 use sharing::{Seat, Shared};
-use std::alloc::{AllocError, Global};
+use std::alloc::Global;
 use std::process::Abort;
 use std::sync::Wait;
 use std::sync::atomic::{AtomicU64, Ordering};
@@ -55,29 +55,30 @@ fn ask_all<R: Threads + Wait + Sync>(
     Ok(())
 }
 
-/// Returns the lists of seats, as a text.
-fn lists_of(alloc: Global, seats: &[Seat]) -> Result<String, AllocError> {
-    let mut text = String::new(alloc);
-    for seat in seats {
-        text.push_str(&text_of(alloc, seat.list())?)?;
+/// Appends the image of a shared heap and the lists of its seats to a text.
+fn put_state(rt: &(impl Abort + Wait), alloc: Global, table: &Table, text: &mut String) {
+    let image = done(rt, shared_image(rt, alloc, &table.shared));
+    done(rt, text.push_str(&image));
+    for seat in &table.seats {
+        let list = done(rt, text_of(alloc, seat.list()));
+        done(rt, text.push_str(&list));
     }
-    Ok(text)
 }
 
-/// A stop is seen from then on, and changes neither the image nor the lists.
-fn sees_stop(rt: &(impl Abort + Wait), alloc: Global, table: &Table) -> Result<(), Fail> {
-    let image = shared_image(rt, alloc, &table.shared)?;
-    let lists = lists_of(alloc, &table.seats)?;
-    same(rt, table.shared.is_stopped(rt), false);
-    table.shared.stop(rt);
-    same(rt, table.shared.is_stopped(rt), true);
-    same(
-        rt,
-        shared_image(rt, alloc, &table.shared)?.as_str(),
-        image.as_str(),
-    );
-    same(rt, lists_of(alloc, &table.seats)?.as_str(), lists.as_str());
-    Ok(())
+/// A stop is seen from then on.
+fn stops(rt: &(impl Abort + Wait), shared: &Shared) {
+    same(rt, shared.is_stopped(rt), false);
+    shared.stop(rt);
+    same(rt, shared.is_stopped(rt), true);
+}
+
+/// A stop changes neither the image nor the lists.
+fn sees_stop(rt: &(impl Abort + Wait), alloc: Global, table: &Table) {
+    let (mut before, mut after) = (String::new(alloc), String::new(alloc));
+    put_state(rt, alloc, table, &mut before);
+    stops(rt, &table.shared);
+    put_state(rt, alloc, table, &mut after);
+    same(rt, after.as_str(), before.as_str());
 }
 
 /// A step that stalls fails with `Stall`; if the heap was stopped, also one that would wait.
@@ -88,23 +89,19 @@ fn stalls<R: Abort + Wait>(rt: &R, shared: &Shared, seat: &mut Seat) {
 }
 
 /// A table is stopped, and then a step that would wait fails with `Stall`.
-fn is_stopped(
-    rt: &(impl Abort + Wait),
-    alloc: Global,
-    mut held: impl HeldTable + Drop,
-) -> Result<(), Fail> {
+fn is_stopped(rt: &(impl Abort + Wait), alloc: Global, mut held: impl HeldTable + Drop) {
     let table = held.table();
-    sees_stop(rt, alloc, table)?;
+    sees_stop(rt, alloc, table);
     match seat_of(&mut table.seats, Actor::Thread(0)) {
         Some(seat) => stalls(rt, &table.shared, seat),
-        None => return Err("no such seat".into()),
+        None => assert!(rt; false, "no such seat"),
     }
-    Ok(())
 }
 
 #[test]
 fn a_stop_is_seen(rt: HostRuntime) -> Result<(), Fail> {
-    is_stopped(&rt, rt.alloc(), half_crossed(&rt, rt.alloc())?)
+    is_stopped(&rt, rt.alloc(), half_crossed(&rt, rt.alloc())?);
+    Ok(())
 }
 
 /// Returns when another thread has begun its call and had time to wait.
@@ -171,24 +168,17 @@ fn first_waits<R: Threads + Wait + Sync>(
 }
 
 /// At a table a thread waits, and is woken by a stop.
-fn wakes_by_stop<R: Abort + Threads + Wait + Sync>(
-    rt: &R,
-    mut held: impl HeldTable + Drop,
-) -> Result<(), Fail> {
+fn wakes_by_stop<R: Abort + Threads + Wait + Sync>(rt: &R, mut held: impl HeldTable + Drop) {
     let table = held.table();
-    match seat_of(&mut table.seats, Actor::Thread(0)) {
-        Some(seat) => {
-            let reply = woken_by_stop(rt, &table.shared, seat);
-            same(rt, reply, Err(Refusal::Stall));
-        }
-        None => return Err("no such seat".into()),
-    }
-    Ok(())
+    let seat = seat_of(&mut table.seats, Actor::Thread(0));
+    let reply = seat.map(|seat| woken_by_stop(rt, &table.shared, seat));
+    same(rt, reply, Some(Err(Refusal::Stall)));
 }
 
 #[test]
 fn a_stop_ends_a_wait(rt: HostRuntime) -> Result<(), Fail> {
-    wakes_by_stop(&rt, half_crossed(&rt, rt.alloc())?)
+    wakes_by_stop(&rt, half_crossed(&rt, rt.alloc())?);
+    Ok(())
 }
 
 /// At a table a thread waits, and is woken by a crossing, after which the register has to be scrubbed first.

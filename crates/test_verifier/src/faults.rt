@@ -2,15 +2,15 @@
 //! in frame 0, and a register of each thread and the global refer to it. When it has moved it is at page 2, offset 0,
 //! page 1 is released, and roots refer to it by its old place until the next mark.
 
+use crate::edits::{
+    entry, set_entry, set_frame, set_free, set_global, set_load, set_page, set_start, set_word,
+    word,
+};
 use crate::same::done;
 use crate::stories::{Story, told};
 use model::PageState;
 use std::alloc::Global;
 use std::process::Abort;
-use test_support_images::{
-    entry, set_entry, set_frame, set_free, set_global, set_load, set_page, set_start, set_word,
-    word,
-};
 use verify::{Fault, Image, Root, Verdict, verify_image};
 
 /// A reference to page 3, offset 0, where no object was ever allocated.

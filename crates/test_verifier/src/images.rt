@@ -1,12 +1,11 @@
 //! Verdicts on made images: the order of faults, twins, and forwarding tables. Single faults are in `faults`.
 
+use crate::edits::{set_free, set_global, set_load, set_page, set_register, set_word};
+use crate::making::{add_entry, bare, put};
 use crate::same::{done, same};
 use model::PageState;
 use std::alloc::{AllocError, Global};
 use std::process::Abort;
-use test_support_images::{
-    add_entry, bare, put, set_free, set_global, set_load, set_page, set_register, set_word,
-};
 use verify::{Fault, Image, Root, Verdict, verify_image};
 
 /// The address of the only object of `sample`, and a reference to it.

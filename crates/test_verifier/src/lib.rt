@@ -1,14 +1,14 @@
-//! The tests of the verifier: on heaps, and on images with single or random faults, compared with a slow verdict.
+//! The tests of the verifier, on heaps and on images with faults.
 #![tactic(auto)]
 
 #[cfg(test)]
-mod faults;
+mod edits;
 #[cfg(test)]
-mod fields;
+mod faults;
 #[cfg(test)]
 mod images;
 #[cfg(test)]
-mod random;
+mod making;
 #[cfg(test)]
 mod same;
 #[cfg(test)]

@@ -1,5 +1,5 @@
 use Rattle.std.proofs.Common.{◌≡◌, length, map, take, drop}
-use Rattle.model.specs.Bits.{blank_row}
+use Rattle.sequences.specs.Bits.{blank_row}
 use Rattle.markbits.proofs.rows.Rows.clear_all.Given as goal
 
 abbrev pub invariant-loop-index : goal.invariant-loop-index
