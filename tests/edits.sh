@@ -135,7 +135,9 @@ told "$PYTHON" "$tools/edits.py" passed none
 is 'no commit' 2 'edits: there is no commit none'
 cd "$kept" && rm -rf small && cp -R whole small && cd small || exit 1
 
-# An edit that is no mistake, so that the crate is proved with it.
+# An edit that is no mistake, so that the crate is proved with it. The crate beside it can't be proved, and isn't tried.
+crate beside low
+sed -i 's/more = 1/more = 2/' crates/beside/src/lib.rt
 sed 's/= 2;/= 1 + 0;/' crates/high/must-fail/two_more.edit > crates/high/must-fail/as_it_was.edit
 told "$PYTHON" "$tools/edits.py" try high
 is 'an edit that is proved' 1 \
@@ -145,6 +147,7 @@ is 'an edit that is proved' 1 \
     'high: 1 of 2 edits refused' \
     "failed: high isn't written down" \
     '0 passed, 1 failed'
+rm -r crates/beside && sed -i '/^beside:/d' crates.txt
 check
 is 'it is not written down' 1 'high: 2 edits to try'
 told sh "$tools/proofs.sh" "$kept/proved"
