@@ -13,6 +13,7 @@ ghost use Rattle.model.specs.declared.steps.Answer.TheVariants as answers;
 ghost use Rattle.cycle.specs.Mutating.{DoesThread, StepsStand};
 
 use crate::gate::thread_gate;
+use fast_paths::{datum_at_once, set_datum_at_once, store_at_once};
 use heap::Heap;
 use model::{Buffer, Refusal, Step, Trap};
 
@@ -133,7 +134,7 @@ pub fn store(
 ) -> Result<(), Refusal>
     ensures { DoesThread done heap.old thread (steps.Store object field source) result heap.new }
 {
-    match heap.store_at_once(thread, object, field, source) {
+    match store_at_once(heap, thread, object, field, source) {
         true => Ok(()),
         false => store_by_tests(heap, thread, object, field, source),
     }
@@ -176,7 +177,7 @@ pub fn store_global(heap: &mut Heap, thread: u32, global: u32, source: u32) -> R
 pub fn datum(heap: &Heap, thread: u32, object: u32, index: u32) -> Result<u64, Refusal>
     ensures { DoesThread answers.Datum heap.now thread (steps.Datum object index) result heap.now }
 {
-    match heap.datum_at_once(thread, object, index) {
+    match datum_at_once(heap, thread, object, index) {
         Some(value) => Ok(value),
         None => datum_by_tests(heap, thread, object, index),
     }
@@ -204,7 +205,7 @@ pub fn set_datum(
 ) -> Result<(), Refusal>
     ensures { DoesThread done heap.old thread (steps.SetDatum object index value) result heap.new }
 {
-    match heap.set_datum_at_once(thread, object, index, value) {
+    match set_datum_at_once(heap, thread, object, index, value) {
         true => Ok(()),
         false => set_datum_by_tests(heap, thread, object, index, value),
     }

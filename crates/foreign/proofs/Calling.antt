@@ -6,7 +6,7 @@ use Rattle.model.specs.declared.steps.Step.{Step}
 use Rattle.model.specs.declared.steps.Step.TheVariants as steps
 use Rattle.model.specs.declared.steps.Answer.TheVariants as answers
 use Rattle.model.specs.Saying.{done}
-use Rattle.heap.specs.AtOnce.{GivesDatum}
+use Rattle.fast_paths.specs.AtOnce.{GivesDatum}
 use Rattle.managed.specs.Found.{MayStep}
 use Rattle.model.specs.declared.steps.Answer.{Answer}
 use Rattle.cycle.specs.Mutating.{DoesThread, ThreadStands}

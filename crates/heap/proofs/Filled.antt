@@ -24,11 +24,14 @@ use Rattle.page.specs.Filling.{AllHaveEntries, all_filled, runs_of}
 use Rattle.page.specs.Filling.{with_runs as stored_runs}
 use Rattle.page.specs.Runs.{source_with, with_run}
 use Rattle.page.proofs.Runs.{words_keep}
-use Rattle.heap.specs.Filling.{AreInOrder, AreRunsTo, AreSmall, IsAfter, IsRunTo, with_runs}
-use Rattle.heap.specs.Runs.{GoTo, Notes, notes, noted_by, noted_from, with_entries}
-use Rattle.heap.specs.Starting.{AllGoTo, by_runs, run_noted, run_started, without_starts}
-use Rattle.heap.proofs.Runs.{later_stay, entries_keep, noted_each, page_rises, runs}
-use Rattle.heap.proofs.Starting.{same_filled, same_runs}
+use Rattle.page_rows.specs.Starting.{AreSmall}
+use Rattle.heap.specs.Filling.{AreInOrder, AreRunsTo, IsAfter, IsRunTo, with_runs}
+use Rattle.page_rows.specs.Runs.{GoTo, Notes, notes, noted_by, noted_from}
+use Rattle.heap.specs.Runs.{with_entries}
+use Rattle.page_rows.specs.Starting.{AllGoTo, by_runs, run_noted, run_started, without_starts}
+use Rattle.page_rows.proofs.Notes.{later_stay, noted_each}
+use Rattle.heap.proofs.Runs.{entries_keep, page_rises, runs}
+use Rattle.page_rows.proofs.Starts.{same_filled, same_runs}
 
 -- notes of another page's copies
 

@@ -7,7 +7,8 @@ use Rattle.model.specs.Stores.{changed_frame, changed_in, frame_in}
 use Rattle.page.specs.declared.owned.OwnedPage.{OwnedPage}
 use Rattle.page.specs.declared.owned.Part.{Part}
 use Rattle.page.specs.Owned.{Swapped, SwappedParts, lent_frame, put_frame, words_or}
-use Rattle.heap.specs.Owning.{ArePlaced, SwappedRows, SwappedRowsOf}
+use Rattle.page_rows.specs.Owning.{SwappedRows, SwappedRowsOf}
+use Rattle.heap.specs.Owning.{ArePlaced}
 use Rattle.heap.proofs.Slots.{AreRising, Slots, SwapsIn, get_in, put_in, rising_more}
 
 -- what pages have, each with the index of its record

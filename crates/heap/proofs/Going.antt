@@ -6,7 +6,8 @@ use Rattle.std.proofs.lemmas.Bool.{eqb-true, true≢false}
 use Rattle.std.proofs.lemmas.Bool.Decides.{nat_tests}
 use Rattle.model.specs.declared.records.Forwarding.{Forwarding}
 use Rattle.model.proofs.Lists.{get_within}
-use Rattle.heap.specs.Runs.{GoTo, goes_to}
+use Rattle.page_rows.specs.Runs.{GoTo}
+use Rattle.heap.specs.Runs.{goes_to}
 
 -- an entry that exists goes to the target
 goes_there : (words target : ℕ) (o : Option Forwarding) (f : Forwarding) → goes_to words target o ≡ true → o ≡ Some f

@@ -7,7 +7,8 @@ use Rattle.model.specs.States.{HeapState}
 use Rattle.page.specs.declared.owned.OwnedPage.{OwnedPage}
 use Rattle.page.specs.declared.owned.Part.{Part}
 use Rattle.page.specs.Owned.{Swapped, SwappedParts, lent_frame, put_frame}
-use Rattle.heap.specs.Owning.{AreBack, AreBlank, AreBlankPages, AreLent, ArePagesOf, ArePlaced, SwappedRows, SwappedRowsOf}
+use Rattle.page_rows.specs.Owning.{SwappedRows, SwappedRowsOf}
+use Rattle.heap.specs.Owning.{AreBack, AreBlank, AreBlankPages, AreLent, ArePagesOf, ArePlaced}
 use Rattle.heap.proofs.Flat.{frame_slot, lent_is, put_frame_is}
 use Rattle.heap.proofs.Slots.{AreOwn, get_other, put_in}
 

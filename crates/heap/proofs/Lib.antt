@@ -1,5 +1,5 @@
-pub mod AtOnce
-pub mod AtOnceGlobals
+pub mod Frames
+pub mod LoadedWords
 pub mod Births
 pub mod Cycling
 pub mod Counting
@@ -9,9 +9,6 @@ pub mod Writing
 pub mod Moving
 pub mod Runs
 pub mod TakenBuffers
-pub mod GivenRows
-pub mod Found
-pub mod Compared
 pub mod Sizes
 pub mod Going
 pub mod Entries
@@ -22,7 +19,4 @@ pub mod Shapes
 pub mod Sizing
 pub mod Scanning
 pub mod Parted
-pub mod SwappedRows
-pub mod Starting
-pub mod SwappedStarts
 pub mod Filled

@@ -12,7 +12,8 @@ use Rattle.page.specs.declared.owned.Part.{Part}
 use Rattle.page.specs.Owned.{Swapped, SwappedParts, put_frame}
 use Rattle.part_scans.specs.Scenes.{scene_of}
 use Rattle.heap.specs.Owning.{AreBlank, AreBlankPages, ArePlaced, AreWordless, AreWordlessPages, ScansParts, ScansStore}
-use Rattle.heap.specs.Owning.{SwappedRows, SwappedRowsOf, put_pages, put_parts}
+use Rattle.page_rows.specs.Owning.{SwappedRows, SwappedRowsOf}
+use Rattle.heap.specs.Owning.{put_pages, put_parts}
 use Rattle.heap.proofs.Flat.{flat, flat_parts, frame_slot, greys_in, marks_in, parts_greys, parts_marks, placed_rising}
 use Rattle.heap.proofs.Flat.{put_frame_is, row_slot, words_in}
 use Rattle.heap.proofs.Keeping.{store_keeps}

@@ -29,7 +29,3 @@ IsAfter r q = q.page ≡ r.page → r.first + r.count ≤ q.first
 abbrev pub AreInOrder : List PageRun → Type 0
 AreInOrder [] = Unit {0}
 AreInOrder (r ∷ rs) = Each rs (IsAfter r) × AreInOrder rs
-
--- runs are no longer than a page
-abbrev pub AreSmall : List PageRun → Type 0
-AreSmall rs = Each rs (λ r. r.first + r.count ≤ MOST_WORDS)

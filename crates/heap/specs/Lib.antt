@@ -1,15 +1,12 @@
-pub mod AtOnce
+pub mod Frames
 pub mod Globals
 pub mod Views
 pub mod Making
-pub mod Opening
 pub mod Taking
 pub mod Relocating
 pub mod Runs
 pub mod Marking
-pub mod Found
 pub mod Writing
 pub mod Entries
 pub mod Owning
 pub mod Filling
-pub mod Starting

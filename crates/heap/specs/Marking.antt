@@ -1,11 +1,8 @@
 -- Objects are marked, and whoever marks them makes them grey.
-use Rattle.std.specs.Prelude.{◌≡◌, ℕ, ◌/◌, ◌%◌, Bool, true, false, List, Option, Some, slice_get, if◌then◌else◌}
-use Rattle.model.specs.Bits.{of_page, bit_at, with_bit}
+use Rattle.std.specs.Prelude.{◌≡◌, ℕ, Bool, true, false, Some, if◌then◌else◌}
+use Rattle.model.specs.Bits.{bit_at, with_bit}
 use Rattle.model.specs.States.{HeapState}
-
--- the bit of an address in bitmaps of pages of `words` words, if it has one
-abbrev pub bit_in : List (List Bool) → ℕ → ℕ → Option Bool
-bit_in rows words a = slice_get (of_page rows (a / words)) (a % words)
+pub use Rattle.page_rows.specs.Bits.{bit_in}
 
 -- the heap in which the object at an address is grey
 unfoldable pub noted : HeapState → ℕ → HeapState

@@ -1,5 +1,4 @@
 //! The heap.
-pub mod at_once;
 mod birth;
 mod buffers;
 pub mod collecting;
@@ -7,17 +6,16 @@ mod crossing;
 mod data;
 pub mod edits;
 mod filling;
+mod frames;
 mod kept;
 mod making;
 mod marks;
-pub mod opening;
 mod owning;
 pub mod references;
 mod registers;
 mod relocating;
 mod runs;
 mod sides;
-mod starting;
 mod writing;
 
 ghost use Rattle.std.specs.Prelude.{◌≡◌, ◌<◌, ◌≤◌, ◌*◌, ◌+◌, position, length, IfSome};

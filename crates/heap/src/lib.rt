@@ -7,11 +7,10 @@ mod heap;
 
 pub use fault::NewFault;
 pub use heap::Heap;
-pub use heap::at_once::found::FoundObject;
 pub use heap::collecting::RawCollectorEdits;
 pub use heap::edits::RawEdits;
-pub use heap::opening::PageMemory;
 pub use markbits::{IndexedRows, Row, Rows};
 pub use model::{Config, ConfigFault, Refusal, Tally};
+pub use page_rows::PageMemory;
 pub use part_scans::read_reference;
 pub use thread_records::Thread;

@@ -10,7 +10,7 @@ use Rattle.model.specs.Owning.{IsStore}
 use Rattle.model.specs.Plain.{PlainHeap}
 use Rattle.model.specs.States.{HeapState}
 use Rattle.cycle.specs.Mutating.{ThreadStands}
-use Rattle.heap.specs.AtOnce.{GivesDatum, GivesSame, LoadsAtOnce, MayDoAtOnce, MayLoadAtOnce}
+use Rattle.fast_paths.specs.AtOnce.{GivesDatum, GivesSame, LoadsAtOnce, MayDoAtOnce, MayLoadAtOnce}
 use Rattle.refinement.specs.Standing.{StepsHold, MarksFind, PhasesMove, KeepsStanding, kept_at_mark}
 use Rattle.refinement.specs.Tallies.{StepsCount}
 use Rattle.cycle.proofs.Replaying.{accepted_stands}

@@ -25,7 +25,8 @@ use Rattle.model.specs.Owning.{IsStore}
 use Rattle.model.specs.Registers.{let_through, register_of}
 use Rattle.model.specs.Stores.{StoreState, page_at, state_at, with_words}
 use Rattle.page.proofs.Usable.{usable_set_keeps}
-use Rattle.heap.proofs.AtOnce.{datum_there, written_keeps}
+use Rattle.heap.proofs.Frames.{written_keeps}
+use Rattle.fast_paths.proofs.AtOnce.{datum_there}
 use Rattle.refinement.specs.Standing.{StepsHold, MarksFind, PhasesMove}
 use Rattle.refinement.specs.Tallies.{StepsCount}
 use Rattle.page.proofs.Untouched.{word_stays}

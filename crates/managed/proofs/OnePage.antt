@@ -20,7 +20,7 @@ use Rattle.model.proofs.Memory.{words_sized}
 use Rattle.page.proofs.Behind.{further_on, same_page}
 use Rattle.page.proofs.Copied.{nothing_over}
 use Rattle.page.proofs.Runs.{unchanged, words_alike, words_twice}
-use Rattle.heap.proofs.Found.{read_within}
+use Rattle.fast_paths.proofs.FoundObjects.{read_within}
 use Rattle.heap.specs.Writing.{with_words_after}
 use Rattle.managed.specs.Data.{ReadsRun, with_data}
 

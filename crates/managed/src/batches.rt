@@ -1,14 +1,14 @@
 //! Several steps of a thread by one call: loads from one object, and the stores that fill a new object.
 
 ghost use Rattle.std.specs.Prelude.{◌≡◌, ◌≤◌, ◌++◌, IfOk, drop, length};
-ghost use Rattle.heap.specs.Found.{FindsObject};
+ghost use Rattle.fast_paths.specs.Found.{FindsObject};
 ghost use Rattle.managed.specs.Batches.{EndsFilling, EndsLoads, LayoutHas, fill_steps, fill_test};
 ghost use Rattle.managed.specs.Batches.{IsRestOfData, IsRestOfLoads, IsRestOfStores};
 ghost use Rattle.managed.specs.Batches.{places_test, set_steps, source_test, sources_test, store_steps};
 
 use crate::managed::ManagedHeap;
 use crate::mutating::Mutate;
-use heap::FoundObject;
+use fast_paths::FoundObject;
 use model::Refusal;
 
 /// One of several loads: a register gets a reference of an object.

@@ -3,8 +3,8 @@
 
 ghost use Rattle.std.specs.Prelude.{◌≡◌, ◌≢◌, IfSome, Ok};
 ghost use Rattle.cycle.specs.Mutating.{ThreadStands};
-ghost use Rattle.heap.specs.AtOnce.{GivesDatum, GivesSame, NamesHeader};
-ghost use Rattle.heap.specs.Found.{FindsObject};
+ghost use Rattle.fast_paths.specs.AtOnce.{GivesDatum, GivesSame, NamesHeader};
+ghost use Rattle.fast_paths.specs.Found.{FindsObject};
 ghost use Rattle.model.specs.declared.steps.Answer.TheVariants as answers;
 ghost use Rattle.model.specs.declared.steps.Step.TheVariants as steps;
 ghost use Rattle.page.specs.Whole.{AreWhole};
@@ -12,7 +12,10 @@ ghost use Rattle.managed.specs.Found.{MayStep};
 ghost use Rattle.managed.specs.Goings.{MayLoadWhole};
 
 use crate::managed::ManagedHeap;
-use heap::FoundObject;
+use fast_paths::{
+    FoundObject, datum_found, find_object, header_found, load_found, same_at_once, set_datum_found,
+    store_found,
+};
 
 impl ManagedHeap {
     /// Returns the object that a register of a thread names, both numbered from 0, if the thread runs, its barrier
@@ -22,7 +25,7 @@ impl ManagedHeap {
         ensures { IfSome result (FindsObject self.now thread register) }
     {
         self.sound();
-        self.heap().find_object(thread, register)
+        find_object(self.heap(), thread, register)
     }
 
     /// Proves that what registers name has its place on a page and in the tables. It does nothing: its contract is
@@ -53,7 +56,7 @@ impl ManagedHeap {
         self.sound();
         self.heap.law();
         refinement::law();
-        self.heap.load_found(found, thread, target, object, field)
+        load_found(&mut self.heap, found, thread, target, object, field)
     }
 
     /// Stores a register's reference in a field of an object that was found, if no test rejects it. Returns whether
@@ -74,7 +77,7 @@ impl ManagedHeap {
         self.sound();
         self.heap.law();
         refinement::law();
-        self.heap.store_found(found, thread, object, field, source)
+        store_found(&mut self.heap, found, thread, object, field, source)
     }
 
     /// Writes a data word of an object that was found, if no test rejects it. Returns whether it did; if not,
@@ -94,8 +97,7 @@ impl ManagedHeap {
     {
         self.heap.law();
         refinement::law();
-        self.heap
-            .set_datum_found(found, thread, object, index, value)
+        set_datum_found(&mut self.heap, found, thread, object, index, value)
     }
 
     /// Does a complete load of a reference at once, if no test rejects it and no trap is due. Returns whether it
@@ -132,7 +134,7 @@ impl ManagedHeap {
         self.heap().law();
         refinement::law();
         let found = self.find_object(thread, object)?;
-        let value = self.heap().datum_found(found, thread, object, index)?;
+        let value = datum_found(self.heap(), found, thread, object, index)?;
         Some(value)
     }
 
@@ -146,7 +148,7 @@ impl ManagedHeap {
     {
         self.heap().law();
         refinement::law();
-        let truth = self.heap().same_at_once(thread, left, right)?;
+        let truth = same_at_once(self.heap(), thread, left, right)?;
         Some(truth)
     }
 
@@ -157,7 +159,7 @@ impl ManagedHeap {
         ensures { IfSome result (NamesHeader self.now thread register) }
     {
         let found = self.find_object(thread, register)?;
-        let header = self.heap().header_found(found, thread, register)?;
+        let header = header_found(self.heap(), found, thread, register)?;
         Some(header)
     }
 

@@ -8,6 +8,7 @@ ghost use Rattle.managed.specs.Goings.{MayLoadWhole, TrapsLeft};
 use crate::managed::ManagedHeap;
 use crate::mutating::Mutate;
 use cycle::{MOST_TRAPS, heal_is_due};
+use fast_paths::load_global_at_once;
 use model::{Refusal, Trap};
 
 impl ManagedHeap {
@@ -117,7 +118,7 @@ impl ManagedHeap {
     {
         self.heap.law();
         refinement::law();
-        self.heap.load_global_at_once(thread, target, global)
+        load_global_at_once(&mut self.heap, thread, target, global)
     }
 
     /// Does a complete load of a global by its steps.

@@ -8,8 +8,8 @@ use Rattle.model.specs.Owning.{Each}
 use Rattle.model.specs.States.{HeapState}
 use Rattle.model.specs.Protections.{with_target, with_targets, free_count, unused_count}
 use Rattle.page.proofs.NextTargets.{OpensNext}
-use Rattle.heap.specs.Opening.{IsBlank}
-use Rattle.heap.specs.declared.heap.opening.PageMemory.{PageMemory}
+use Rattle.page_rows.specs.Opening.{IsBlank}
+use Rattle.page_rows.specs.declared.opening.PageMemory.{PageMemory}
 use Rattle.relocate.specs.Targets.{AreBlank, KeepsClosed}
 
 -- opening a target keeps all else

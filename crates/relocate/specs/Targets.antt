@@ -1,7 +1,7 @@
 -- What stays when targets are opened.
 use Rattle.std.specs.Prelude.{◌≡◌, ℕ, List, length}
-use Rattle.heap.specs.Opening.{IsBlank}
-use Rattle.heap.specs.declared.heap.opening.PageMemory.{PageMemory}
+use Rattle.page_rows.specs.Opening.{IsBlank}
+use Rattle.page_rows.specs.declared.opening.PageMemory.{PageMemory}
 use Rattle.model.specs.Owning.{Each}
 use Rattle.model.specs.declared.records.PageState.TheVariants.{Closed}
 use Rattle.model.specs.States.{HeapState}

@@ -2,7 +2,7 @@
 
 ghost use Rattle.std.specs.Prelude.{◌≡◌, ◌+◌, ◌<◌, ◌≤◌, ◌++◌, ◌∷◌, [], ℕ, suc, length, vec_len, vec_capacity};
 ghost use Rattle.std.specs.Prelude.{IfOk};
-ghost use Rattle.heap.specs.Opening.{IsBlank};
+ghost use Rattle.page_rows.specs.Opening.{IsBlank};
 ghost use Rattle.model.specs.Owning.{Each};
 ghost use Rattle.model.specs.Protections.{free_count, unused_count, with_targets};
 ghost use Rattle.relocate.specs.Targets.{AreBlank, KeepsClosed};

@@ -3,6 +3,9 @@
 
 use crate::same::same;
 use cycle::Stepping;
+use fast_paths::{
+    datum_at_once, header_at_once, load_global_at_once, set_datum_at_once, store_at_once,
+};
 use heap::Heap;
 use model::{Actor, Refusal, Step};
 use std::process::Abort;
@@ -18,11 +21,11 @@ trait AtOnce: Stepping {
 impl AtOnce for Heap {
     fn are_done(&mut self) -> [bool; 5] {
         [
-            self.store_at_once(0, 0, 0, 0),
-            self.load_global_at_once(0, 1, 0),
-            self.set_datum_at_once(0, 0, 0, 7),
-            self.datum_at_once(0, 0, 0) == Some(7),
-            self.header_at_once(0, 0) == Some(0),
+            store_at_once(self, 0, 0, 0, 0),
+            load_global_at_once(self, 0, 1, 0),
+            set_datum_at_once(self, 0, 0, 0, 7),
+            datum_at_once(self, 0, 0, 0) == Some(7),
+            header_at_once(self, 0, 0) == Some(0),
         ]
     }
 }

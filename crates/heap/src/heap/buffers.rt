@@ -3,7 +3,7 @@
 ghost use Rattle.std.specs.Prelude.{◌≡◌, ◌≤◌, ◌<◌, length, slice_get, Some, None, true, IfOk, IfSome};
 ghost use Rattle.model.specs.Owning.{LiesIn};
 ghost use Rattle.model.specs.Buffers.{buffer_of_thread, with_buffer};
-ghost use Rattle.heap.specs.Opening.{AreClear};
+ghost use Rattle.page_rows.specs.Opening.{AreClear};
 ghost use Rattle.heap.specs.Taking.{refusal_of};
 ghost use Rattle.page.specs.Records.{begins_page};
 ghost use Rattle.model.specs.Buffers.{take_outcome, give_back_outcome};
@@ -13,8 +13,8 @@ ghost use Rattle.model.specs.Outcome.{Passes};
 ghost use Rattle.model.specs.declared.steps.Step.TheVariants as steps;
 
 use crate::heap::Heap;
-use crate::heap::opening::{PageRows, open_indexed_row, open_row};
 use model::{Buffer, Refusal, Room};
+use page_rows::{PageRows, open_indexed_row, open_row};
 use std::alloc::AllocError;
 
 /// Returns why a thread gets no buffer.

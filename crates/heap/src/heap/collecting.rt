@@ -1,24 +1,24 @@
 //! Raw edits of a heap by the collector: marks, scans, crossings, and the start and the end of a mark.
 
-ghost use Rattle.std.specs.Prelude.{◌≡◌, ◌+◌, ◌/◌, ◌%◌, ◌<◌, length, slice_get, is_none, true, false};
+ghost use Rattle.std.specs.Prelude.{◌≡◌, ◌/◌, ◌%◌, ◌<◌, is_none, true, false};
 ghost use Rattle.std.specs.Prelude.{if◌then◌else◌};
 ghost use Rattle.refword.specs.Words.{bits_of};
-ghost use Rattle.model.specs.Bits.{bit_at, of_page, with_bit};
+ghost use Rattle.model.specs.Bits.{bit_at, with_bit};
 ghost use Rattle.model.specs.Checkpoints.{with_crossed, first_behind, phase_behind};
-ghost use Rattle.model.specs.Cycles.{is_lent, rows_after_mark, start_mark, end_mark};
-ghost use Rattle.model.specs.Marks.{with_mark, marked_word};
+ghost use Rattle.model.specs.Cycles.{start_mark, end_mark};
+ghost use Rattle.model.specs.Marks.{with_mark};
 ghost use Rattle.model.specs.Scans.{with_scan, with_scan_end, set_marked_of};
 ghost use Rattle.model.specs.States.{change_at};
-ghost use Rattle.model.specs.Stores.{store_after_mark, with_word, is_open, is_protected, state_in};
+ghost use Rattle.model.specs.Stores.{with_word};
 ghost use Rattle.model.specs.Threads.{set_crossed_of};
-ghost use Rattle.heap.specs.Marking.{bit_in, noted, MarksApart};
-ghost use Rattle.page.specs.Ending.{with_mark_ended_at};
+ghost use Rattle.heap.specs.Marking.{noted, MarksApart};
 
 use crate::heap::Heap;
-use crate::heap::marks::{bit_at, clear_indexed_bit, put_bit, put_indexed_bit};
-use markbits::{IndexedRows, Rows};
-use model::{PageState, Phase, Scan};
-use page::Store;
+use model::{Phase, Scan};
+use page_rows::{
+    clear_indexed_bit, end_pages, give_up_indexed_rows, give_up_rows, mark_at, put_indexed_bit,
+    set_first,
+};
 use refword::{Addr, Word};
 use thread_records::Threads;
 
@@ -48,88 +48,6 @@ pub trait RawCollectorEdits {
     /// Ends a mark: what it marked is live, open pages without a lent buffer close, protected pages are unused again,
     /// their forwarding tables are empty, and the phase is idle.
     fn end_mark(&mut self);
-}
-
-/// Marks the object at an address: it becomes grey if it wasn't marked before.
-#[inline(always)]
-fn mark_at(mark: &mut Rows, todo: &mut IndexedRows, store: &Store, address: Addr)
-    ensures mark { mark.new ≡ with_bit mark.old store.now.words address true }
-    ensures todo { todo.new ≡ (if bit_at mark.old store.now.words address then todo.old else with_bit todo.old
-        store.now.words address true) }
-{
-    if !bit_at(mark, store, address) {
-        put_indexed_bit(todo, store, address, true);
-    }
-    put_bit(mark, store, address, true);
-}
-
-/// Returns whether the page of an index is open.
-fn is_open_at(store: &Store, index: usize) -> bool
-    ensures { result ≡ is_open (state_in (slice_get store.now.pages index)) }
-{
-    match store.pages().get(index) {
-        None => false,
-        Some(page) => matches!(page.state, PageState::Open),
-    }
-}
-
-/// Ends a mark for the page of an index. If it is open, the threads' buffers are checked.
-fn end_page(store: &mut Store, threads: &Threads, index: usize)
-    requires { index < length store.old.pages }
-    ensures { store.new ≡ with_mark_ended_at store.old index (is_lent threads.now (index + 1)) }
-{
-    store.law();
-    if is_open_at(store, index) {
-        store.end_mark_at(index, threads.is_lent((index + 1) as u32));
-    } else {
-        store.end_mark_at(index, false);
-    }
-}
-
-/// Ends a mark for all pages.
-fn end_pages(store: &mut Store, threads: &Threads)
-    ensures { store.new ≡ store_after_mark (is_lent threads.now) store.old }
-{
-    let count = store.pages().len();
-    for index in 0..count {
-        store.law();
-        end_page(store, threads, index);
-    }
-    store.law();
-}
-
-/// Returns whether the page of an index is protected.
-fn is_protected_at(store: &Store, index: usize) -> bool
-    ensures { result ≡ is_protected (state_in (slice_get store.now.pages index)) }
-{
-    match store.pages().get(index) {
-        None => false,
-        Some(page) => matches!(page.state, PageState::From | PageState::Gone),
-    }
-}
-
-/// Makes bitmaps of protected pages ones of no bits. As many as memory of frames is kept keep theirs.
-fn give_up_rows(rows: &mut Rows, store: &Store)
-    ensures { rows.new ≡ rows_after_mark store.now.pages rows.old }
-{
-    let mut most = store.kept_frames();
-    for index in 0..store.pages().len() {
-        if is_protected_at(store, index) {
-            rows.give_up(index, &mut most);
-        }
-    }
-}
-
-/// The same for bitmaps with an index.
-fn give_up_indexed_rows(rows: &mut IndexedRows, store: &Store)
-    ensures { rows.new ≡ rows_after_mark store.now.pages rows.old }
-{
-    let mut most = store.kept_frames();
-    for index in 0..store.pages().len() {
-        if is_protected_at(store, index) {
-            rows.give_up(index, &mut most);
-        }
-    }
 }
 
 /// Returns the phase after a checkpoint.
@@ -162,18 +80,6 @@ impl Heap {
     {
         self.threads.set_crossed(thread);
     }
-}
-
-/// Marks the object at an address, by its page and its offset there. Returns whether it was marked before, or `None` if
-/// its page has no mark bitmap.
-#[inline(always)]
-fn set_first(mark: &mut Rows, store: &Store, address: Addr, page: u64, offset: u32) -> Option<bool>
-    requires page { page ≡ address / store.now.words }
-    requires offset { offset ≡ address % store.now.words }
-    ensures was { result ≡ bit_in mark.old store.now.words address }
-    ensures mark { mark.new ≡ with_bit mark.old store.now.words address true }
-{
-    mark.set_on(page, offset)
 }
 
 impl Heap {

@@ -9,7 +9,6 @@ ghost use Rattle.model.specs.Saying.{said, done};
 ghost use Rattle.model.specs.Outcome.{Passes};
 ghost use Rattle.model.specs.declared.steps.Step.TheVariants as steps;
 ghost use Rattle.model.specs.declared.steps.Answer.TheVariants as answers;
-ghost use Rattle.heap.specs.AtOnce.{IsOnFrame};
 
 use crate::heap::Heap;
 use layout::{Layout, layout_of};
@@ -55,20 +54,6 @@ impl Heap {
         ensures { self.new ≡ record self.old { store = with_word self.old.store (address + ahead) value } }
     {
         self.store.set_word_behind(address, ahead, value);
-    }
-
-    /// Writes the word less than 2^17 words after an address on a page that has memory and isn't protected, by the
-    /// page's frame, if it is on the same page. Returns whether it did. It may also be false after the page was lent
-    /// alongside another one; `raw_set_word_behind` then writes it.
-    #[inline(always)]
-    pub fn raw_set_word_on(&mut self, frame: u32, address: Addr, ahead: u64, value: u64) -> bool
-        requires frame { IsOnFrame self.old address frame }
-        requires near { ahead < 2 ^ 17 }
-        ensures { self.new ≡ (if result
-            then record self.old { store = with_word self.old.store (address + ahead) value } else self.old) }
-    {
-        self.store
-            .set_word_on(frame, address.number(), ahead, value)
     }
 
     /// Reads a data word, by its number from 0. Fails as `usable` does, then with `BadIndex` if the object has no

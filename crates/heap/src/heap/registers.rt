@@ -1,7 +1,10 @@
 //! Registers, and the steps on them alone.
 
-ghost use Rattle.std.specs.Prelude.{◌≡◌, is_none, Ok};
-ghost use Rattle.model.specs.Registers.{register_of, with_register, let_through, usable, usable_or_null, same_outcome};
+ghost use Rattle.std.specs.Prelude.{◌≡◌, None, Ok};
+ghost use Rattle.model.specs.declared.records.Barrier.{Barrier};
+ghost use Rattle.model.specs.declared.records.Counter.TheVariants as counters;
+ghost use Rattle.model.specs.Loads.{barrier_of_thread, with_barrier, with_loaded};
+ghost use Rattle.model.specs.Registers.{register_of, let_through, usable, usable_or_null, same_outcome};
 ghost use Rattle.model.specs.Registers.{is_null_outcome, copy_register_outcome, clear_register_outcome};
 ghost use Rattle.model.specs.Refusing.{Does};
 ghost use Rattle.model.specs.Saying.{said};
@@ -22,6 +25,16 @@ impl Heap {
         ensures { result ≡ register_of self.now thread register }
     {
         self.threads.register(thread, register)
+    }
+
+    /// A raw edit: writes a word that was loaded to a register of a thread whose barrier isn't open.
+    #[inline(always)]
+    pub fn raw_read_into(&mut self, thread: u32, target: u32, word: Word)
+        requires { barrier_of_thread self.old thread ≡ None }
+        ensures { (b : Barrier) → self.new
+            ≡ with_loaded (with_barrier self.old thread b counters.Loads) thread target word }
+    {
+        self.threads.set_read(thread, target, word);
     }
 
     /// Tests whether a thread, by its number from 0, may use an address: one on no protected page, or any one while

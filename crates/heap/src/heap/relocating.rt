@@ -13,17 +13,20 @@ ghost use Rattle.model.specs.Protections.{has_twice};
 ghost use Rattle.model.specs.Stores.{state_at, words_at};
 ghost use Rattle.model.specs.declared.records.PageState.TheVariants.{Closed, From};
 ghost use Rattle.model.specs.declared.records.Phase.TheVariants.{Idle};
-ghost use Rattle.heap.specs.Opening.{IsBlank};
+ghost use Rattle.page_rows.specs.Opening.{IsBlank};
 ghost use Rattle.heap.specs.Relocating.{OpensTarget, start_protection};
 
 use crate::heap::Heap;
-use crate::heap::opening::{PageMemory, PageRows, blank_rows, open_indexed_row, open_row};
 use forward::Side;
 use layout::layout_of;
 use model::{Buffer, Phase, Room};
+use page_rows::{PageMemory, blank_rows, open_indexed_row, open_row};
 use refword::Addr;
 use std::alloc::AllocError;
 use std::thread::Threads;
+
+/// How many forwarding tables, of those that a mark's end cleared, are freed by one call of `tidy`.
+const TIDIED: u32 = 8;
 
 /// Returns the word at an offset of a page's words, if it exists.
 #[inline(always)]
@@ -110,6 +113,13 @@ impl Heap {
         open_row(&mut self.mark, buffer, rows.mark);
         open_indexed_row(&mut self.todo, buffer, rows.todo);
         Ok(buffer)
+    }
+
+    /// Frees some of the forwarding tables that a mark's end cleared. Nothing else changes.
+    pub(crate) fn tidy(&mut self)
+        ensures { self.new ≡ self.old }
+    {
+        self.sides.tidy(TIDIED);
     }
 
     /// Frees all forwarding tables that a mark's end cleared, and makes space for the next end of a mark to leave its

@@ -1,73 +1,15 @@
 //! Runs of entries of a page, whose objects are copied at once.
 
-ghost use Rattle.std.specs.Prelude.{◌≡◌, ◌+◌, ◌<◌, ◌≤◌, ◌^◌, MatchBool, length, slice_get};
+ghost use Rattle.std.specs.Prelude.{◌≡◌, ◌+◌, ◌<◌, ◌≤◌, MatchBool, length, slice_get};
 ghost use Rattle.model.specs.Bits.{of_page};
 ghost use Rattle.model.specs.declared.limits.TheConstants.{MOST_WORDS};
-ghost use Rattle.heap.specs.Runs.{with_entries, GoTo, IsRunOn, goes_to, notes, noted_starts, noted_from, started_from};
+ghost use Rattle.page_rows.specs.Runs.{GoTo};
+ghost use Rattle.heap.specs.Runs.{with_entries, IsRunOn, goes_to};
 
 use crate::heap::Heap;
-use crate::heap::marks::put_bit;
-use forward::{Side, Sides};
-use markbits::Rows;
-use page::{PieceGate, Store};
+use page::PieceGate;
+use page_rows::note_copies;
 use std::thread::Threads;
-
-/// Notes where the copy of an entry's object starts, if there is such an entry and it is uncopied.
-#[inline(always)]
-#[tactic(auto, using(crate::proofs::Runs::started, crate::proofs::Runs::none_started))]
-fn note_start(starts: &mut Rows, side: &Side, store: &Store, entry: u32)
-    ensures { starts.new ≡ noted_starts store.now.words (slice_get side.now entry) starts.old }
-{
-    if let Some(to) = side.place_to_copy(entry as usize) {
-        put_bit(starts, store, to, true);
-    }
-}
-
-/// The same for `count` entries from a number on.
-#[inline(never)]
-fn note_starts(starts: &mut Rows, side: &Side, store: &Store, first: u32, count: u32)
-    requires { first + count < 2 ^ 32 }
-    ensures { starts.new ≡ started_from store.now.words side.now first count starts.old }
-{
-    for index in 0..count {
-        note_start(starts, side, store, first + index);
-    }
-}
-
-/// The same for entries of a page.
-pub(crate) fn note_starts_of(
-    starts: &mut Rows,
-    sides: &Sides,
-    store: &Store,
-    page: u64,
-    first: u32,
-    count: u32,
-)
-    requires { first + count < 2 ^ 32 }
-    ensures { starts.new ≡ started_from store.now.words (of_page sides.now page) first count starts.old }
-{
-    if let Some(side) = sides.on(page) {
-        note_starts(starts, side, store, first, count);
-    }
-}
-
-/// Notes that the objects of `count` entries of a page from a number on are copied, and where their copies start, of
-/// entries that exist and are uncopied. The place of the last entry is kept, after which the next one is looked up.
-pub(crate) fn note_copies(
-    starts: &mut Rows,
-    sides: &mut Sides,
-    store: &Store,
-    page: u64,
-    first: u32,
-    count: u32,
-)
-    requires { first + count < 2 ^ 32 }
-    ensures { notes starts.new sides.new ≡ noted_from store.now.words page first count (notes starts.old sides.old) }
-{
-    note_starts_of(starts, sides, store, page, first, count);
-    sides.note_run(page, first, count);
-    sides.keep(page, (first + count).saturating_sub(1));
-}
 
 /// Returns whether the object of an entry goes to a target.
 fn goes_to(heap: &Heap, page: u32, entry: u32, target: u64) -> bool

@@ -1,6 +1,6 @@
 use Rattle.std.proofs.Common.{◌∙◌, subst}
 use Rattle.model.specs.States.{HeapState}
-use Rattle.heap.specs.Opening.{IsBlank}
+use Rattle.page_rows.specs.Opening.{IsBlank}
 use Rattle.relocate.proofs.Opening.{one_more}
 use Rattle.relocate.proofs.targets.blank_targets.Goals as goal
 

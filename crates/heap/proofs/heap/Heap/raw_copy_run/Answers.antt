@@ -2,7 +2,8 @@ use Rattle.std.proofs.Common.{◌-◌, ◌+◌, ◌≤◌, ◌∙◌, refl, sym,
 use Rattle.model.specs.Bits.{of_page}
 use Rattle.model.specs.Holding.{IsHeap}
 use Rattle.model.specs.States.{HeapState}
-use Rattle.heap.specs.Runs.{GoTo, with_entries}
+use Rattle.page_rows.specs.Runs.{GoTo}
+use Rattle.heap.specs.Runs.{with_entries}
 use Rattle.heap.specs.Views.{heap_of}
 use Rattle.heap.proofs.Runs.{run_done, entries_none, entries_keep, side_there, no_side}
 use Rattle.heap.proofs.heap.Heap.raw_copy_run.Goals as goal

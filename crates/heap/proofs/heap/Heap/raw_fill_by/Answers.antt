@@ -1,11 +1,12 @@
 use Rattle.std.proofs.Common.{◌∙◌, ap, subst, sym}
 use Rattle.model.specs.Holding.{IsHeap}
 use Rattle.page.specs.Filling.{runs_of}
-use Rattle.heap.specs.Filling.{AreRunsTo, AreSmall, with_runs}
-use Rattle.heap.specs.Starting.{by_runs, run_noted}
+use Rattle.page_rows.specs.Starting.{AreSmall}
+use Rattle.heap.specs.Filling.{AreRunsTo, with_runs}
+use Rattle.page_rows.specs.Starting.{by_runs, run_noted}
 use Rattle.heap.specs.Views.{heap_of}
 use Rattle.heap.proofs.Filled.{all_go_to, all_have_entries, all_small, filled_heap, runs_done}
-use Rattle.heap.proofs.Starting.{same_entries, same_runs}
+use Rattle.page_rows.proofs.Starts.{same_entries, same_runs}
 use Rattle.heap.proofs.heap.Heap.raw_fill_by.Goals as goal
 
 pub note_targets-requires-clause-small : goal.note_targets-requires-clause-small

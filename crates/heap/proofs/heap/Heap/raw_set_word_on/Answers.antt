@@ -1,6 +1,6 @@
 use Rattle.std.proofs.Common.{◌+◌}
 use Rattle.heap.specs.Views.{heap_of}
-use Rattle.heap.proofs.AtOnce.{written_keeps}
+use Rattle.heap.proofs.Frames.{written_keeps}
 use Rattle.heap.proofs.heap.Heap.raw_set_word_on.Goals as goal
 
 pub invariant_of-self : goal.invariant_of-self

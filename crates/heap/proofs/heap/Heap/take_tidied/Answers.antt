@@ -7,7 +7,7 @@ use Rattle.std.specs.Prelude.{Some}
 use Rattle.std.specs.List.{slice_get}
 use Rattle.model.specs.Holding.{IsHeap}
 use Rattle.page.specs.Records.{begins_page}
-use Rattle.heap.specs.Opening.{AreClear}
+use Rattle.page_rows.specs.Opening.{AreClear}
 use Rattle.heap.specs.Views.{heap_of}
 use Rattle.heap.proofs.Keeping.{opened_keeps, thread_keeps}
 use Rattle.heap.proofs.TakenBuffers.{refused_same, taken_rows, took, thread_there, threads_lent}

@@ -1,4 +1,4 @@
-use Rattle.heap.specs.Runs.{GoTo}
+use Rattle.page_rows.specs.Runs.{GoTo}
 use Rattle.model.specs.Bits.{of_page}
 use Rattle.heap.proofs.heap.runs.go_to.Given as goal
 

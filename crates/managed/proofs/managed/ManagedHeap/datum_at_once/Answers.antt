@@ -2,7 +2,7 @@ use Rattle.std.proofs.Common.{subst}
 use Rattle.model.specs.Holding.{IsHeap}
 use Rattle.model.specs.Owning.{IsStore}
 use Rattle.model.specs.States.{HeapState}
-use Rattle.heap.specs.AtOnce.{GivesDatum}
+use Rattle.fast_paths.specs.AtOnce.{GivesDatum}
 use Rattle.managed.proofs.AtOnce.{datum_stands}
 use Rattle.managed.proofs.managed.ManagedHeap.datum_at_once.Goals as goal
 

@@ -1,4 +1,4 @@
-use Rattle.heap.specs.Found.{FindsObject}
+use Rattle.fast_paths.specs.Found.{FindsObject}
 use Rattle.managed.specs.Batches.{IsRestOfLoads}
 use Rattle.managed.proofs.managed.ManagedHeap.load_first.Given as goal
 

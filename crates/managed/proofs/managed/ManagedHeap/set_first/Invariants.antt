@@ -1,4 +1,4 @@
-use Rattle.heap.specs.Found.{FindsObject}
+use Rattle.fast_paths.specs.Found.{FindsObject}
 use Rattle.managed.specs.Batches.{IsRestOfData}
 use Rattle.managed.proofs.managed.ManagedHeap.set_first.Given as goal
 

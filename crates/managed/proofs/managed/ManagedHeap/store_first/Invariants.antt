@@ -1,4 +1,4 @@
-use Rattle.heap.specs.Found.{FindsObject}
+use Rattle.fast_paths.specs.Found.{FindsObject}
 use Rattle.managed.specs.Batches.{IsRestOfStores}
 use Rattle.managed.proofs.managed.ManagedHeap.store_first.Given as goal
 

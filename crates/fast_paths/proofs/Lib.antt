@@ -1,0 +1,4 @@
+pub mod AtOnce
+pub mod AtOnceGlobals
+pub mod Compared
+pub mod FoundObjects

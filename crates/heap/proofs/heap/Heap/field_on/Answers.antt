@@ -1,9 +1,0 @@
-use Rattle.std.proofs.Common.{◌<◌, arith}
-use Rattle.heap.proofs.AtOnce.{field_there}
-use Rattle.heap.proofs.heap.Heap.field_on.Goals as goal
-
-pub returns-clause-value : goal.returns-clause-value
-returns-clause-value c =
-    let l = c.in_ok-layout.layout in
-    let few : c.args.index < l.refs = omega (arith, c.if-index-from.false, c.from.ensures) in
-    field_there c.args.self.now c.args.spot.now.address c.args.index c.from-2.result l c.in_ok-layout.ensures few c.from-2.ensures

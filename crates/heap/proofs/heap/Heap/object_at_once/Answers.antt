@@ -1,7 +1,0 @@
-use Rattle.heap.proofs.AtOnce.{numbered, uses_at_once}
-use Rattle.heap.proofs.heap.Heap.object_at_once.Goals as goal
-
-pub returns-clause-uses : goal.returns-clause-uses
-returns-clause-uses c =
-    uses_at_once c.args.self.now c.args.thread c.args.object c.number-address.result c.in_ok-word.word
-    c.in_ok-frame.ensures.open c.in_ok-word.ensures (numbered c.in_ok-word.word c.number-address.result c.number-address.ensures c.in_ok-frame.ensures.address)

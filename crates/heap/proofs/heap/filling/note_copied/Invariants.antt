@@ -1,6 +1,0 @@
-use Rattle.std.proofs.Common.{◌≡◌, drop}
-use Rattle.heap.specs.Starting.{by_runs, run_noted}
-use Rattle.heap.proofs.heap.filling.note_copied.Given as goal
-
-abbrev pub invariant-loop-index : goal.invariant-loop-index
-invariant-loop-index l = by_runs run_noted (drop l.index l.runs) l.sides ≡ by_runs run_noted l.fn.runs l.fn.sides

@@ -1,5 +1,0 @@
-use Rattle.heap.proofs.SwappedStarts.{StartsRest}
-use Rattle.heap.proofs.heap.starting.swap_starts.Given as goal
-
-abbrev pub invariant-loop-index : goal.invariant-loop-index
-invariant-loop-index l = StartsRest l.fn.starts l.fn.targets l.index l.starts l.targets

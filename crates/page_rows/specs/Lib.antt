@@ -1,0 +1,5 @@
+pub mod Bits
+pub mod Opening
+pub mod Runs
+pub mod Starting
+pub mod Owning
