@@ -6,7 +6,6 @@ pub mod Keeping
 pub mod Retained
 pub mod Lying
 pub mod Behind
-pub mod Trees
 pub mod Masks
 pub mod Relocated
 pub mod Copied

@@ -1,14 +1,11 @@
-pub mod Aside
 pub mod Runs
 pub mod Ending
 pub mod Lending
 pub mod Records
-pub mod Tournaments
 pub mod Views
 pub mod Relocating
 pub mod Usable
 pub mod Sizes
 pub mod Whole
-pub mod Kept
 pub mod Owned
 pub mod Filling

@@ -1,26 +1,10 @@
--- A store and its indexes as contracts see them.
-use Rattle.std.specs.Prelude.{◌≡◌, ◌+◌, ◌-◌, ◌*◌, ◌^◌, ◌≤◌, ℕ, Bool, if◌then◌else◌, List, take, drop, map, length}
-use Rattle.std.specs.Prelude.{slice_index, count_by, is_none}
+-- A store as contracts see it.
+use Rattle.std.specs.Prelude.{◌≡◌, ◌-◌, ℕ, Bool, if◌then◌else◌, map, count_by, is_none}
 use Rattle.model.specs.declared.records.Page.{Page}
 use Rattle.model.specs.Stores.{StoreState, is_open, is_unused}
 use Rattle.model.specs.Owning.{IsStore}
-use Rattle.page.specs.Tournaments.{IsTree}
 use Rattle.page.specs.Usable.{usable_by_number}
-use Rattle.page.specs.declared.index.Tournament.TheInside as index
 use Rattle.page.specs.declared.store.Store.TheInside.{Inside}
-
--- the numbers of a tree's leaves that are in use
-abbrev pub numbers_of : index.Inside → List ℕ
-numbers_of t = take t.count (drop t.width t.nodes.items)
-
--- the tree has a level for each doubling of its width, and its unused leaves are 0
-pub record IsTournament (t : index.Inside) : Type 0 where
-  pub width : t.width ≡ 2 ^ t.depth
-  pub range : t.width ≤ 2 ^ 21
-  pub sized : length t.nodes.items ≡ 2 * t.width
-  pub count : t.count ≤ t.width
-  pub tree : IsTree t.nodes.items t.width
-  pub rest : (i : ℕ) → t.width + t.count ≤ i → slice_index t.nodes.items i ≡ 0
 
 -- how many words can still be taken in a page: none if it isn't open
 abbrev pub left_in : ℕ → Page → ℕ

@@ -2,10 +2,6 @@
 #![tactic(auto)]
 
 mod copies;
-mod frame;
-mod frames;
-mod index;
-mod kept;
 mod owned;
 mod size;
 mod sources;
@@ -13,10 +9,9 @@ mod store;
 mod targets;
 
 pub use copies::many;
-pub use frame::Frame;
-pub use frames::Frames;
 pub use model::{Buffer, Page, PageState, Room};
 pub use owned::{OwnedPage, Part};
+pub use page_frames::{Frame, Frames};
 pub use pieces::{Cutter, PieceGate, cut_off};
 pub use size::PageSize;
 pub use store::{Store, record_count};

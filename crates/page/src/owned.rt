@@ -4,10 +4,9 @@ ghost use Rattle.std.specs.Prelude.{◌≡◌, ◌<◌, ◌≤◌, ◌+◌, ◌^
 ghost use Rattle.model.specs.Stores.{frame_in};
 ghost use Rattle.page.specs.Owned.{lent_frame, put_frame, AreShort, Swapped, SwappedParts};
 
-use crate::frame::Frame;
-use crate::frames::Frames;
 use markbits::Row;
 use model::Page;
+use page_frames::{Frame, Frames};
 use refword::Word;
 use std::alloc::Global;
 

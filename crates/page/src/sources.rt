@@ -7,12 +7,11 @@ ghost use Rattle.model.specs.Owning.{Each};
 ghost use Rattle.pieces.specs.Pieces.{laid_from};
 ghost use Rattle.page.specs.Filling.{AllHaveEntries, FillsFrames, HasEntries, filled, laid_runs, source_on, words_on};
 
-use crate::frame::Frame;
-use crate::frames::Frames;
 use crate::targets::{PageRun, Target, frame_of, swap_targets};
 use forward::{Side, Sides};
 use layout::Layouts;
 use model::Page;
+use page_frames::{Frame, Frames};
 use pieces::{Source, copy_run};
 use std::marker::Model;
 use std::thread::{Threads, for_each_mut};

@@ -20,13 +20,13 @@ ghost use Rattle.model.specs.declared.limits.TheConstants.{MOST_WORDS, MOST_FRAM
 ghost use Rattle.model.specs.Owning.{IsStore};
 
 use crate::copies::many;
-use crate::frames::Frames;
-use crate::index::Tournament;
 use crate::size::PageSize;
 use model::{Page, PageState};
+use page_frames::Frames;
 use refword::Addr;
 use std::alloc::{AllocError, Global};
 use std::marker::Model;
+use tournaments::Tournament;
 
 /// The pages and frames of a heap.
 ///

@@ -5,11 +5,10 @@ ghost use Rattle.model.specs.Stores.{changed_in, frame_in};
 ghost use Rattle.page.specs.Filling.{SwapsTargets, page_in};
 ghost use Rattle.page.specs.Owned.{words_or};
 
-use crate::frame::Frame;
-use crate::frames::Frames;
 use crate::owned::frame_at;
 use markbits::Row;
 use model::Page;
+use page_frames::{Frame, Frames};
 use std::alloc::Global;
 
 /// A run: consecutive entries of a page's forwarding table, all of which go to one target.

@@ -11,9 +11,9 @@ ghost use Rattle.model.specs.Stores.{state_at};
 ghost use Rattle.page.specs.Lending.{LendsPart, lies_in};
 ghost use Rattle.page.specs.Records.{begins_page, is_unused_in};
 
-use crate::frame::Frame;
 use crate::store::Store;
 use model::{Buffer, Page, PageState, Room};
+use page_frames::Frame;
 use std::alloc::AllocError;
 use std::thread::Threads;
 

@@ -3,7 +3,7 @@
 ghost use Rattle.std.specs.Prelude.{◌≡◌, ◌≤◌, ℕ, List, length, IfSome, Some};
 ghost use Rattle.model.specs.Stores.{words_at};
 ghost use Rattle.model.specs.declared.limits.TheConstants.{MOST_WORDS};
-ghost use Rattle.page.specs.Kept.{objects_in, sizes_in};
+ghost use Rattle.page_frames.specs.Kept.{objects_in, sizes_in};
 
 use crate::store::Store;
 use forward::{LiveObjects, Sizes};

@@ -10,9 +10,9 @@ ghost use Rattle.model.specs.declared.records.Buffer.{Buffer};
 ghost use Rattle.model.specs.declared.records.PageState.TheVariants.{Closed, From};
 ghost use Rattle.page.specs.Relocating.{NoneGone};
 
-use crate::frame::Frame;
 use crate::store::Store;
 use model::{Buffer, Page, PageState, Room};
+use page_frames::Frame;
 
 /// Returns whether a page is unused.
 fn is_unused(page: &Page) -> bool

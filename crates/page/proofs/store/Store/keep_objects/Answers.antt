@@ -2,7 +2,7 @@ use Rattle.std.proofs.Common.{◌≡◌, ◌∙◌, sym, subst}
 use Rattle.std.specs.Prelude.{IfSome}
 use Rattle.std.specs.List.{slice_get}
 use Rattle.model.specs.Stores.{StoreState}
-use Rattle.page.specs.Kept.{objects_in}
+use Rattle.page_frames.specs.Kept.{objects_in}
 use Rattle.page.proofs.Retained.{words_there}
 use Rattle.page.proofs.store.Store.keep_objects.Goals as goal
 

@@ -1,5 +1,0 @@
-use Rattle.page.proofs.Trees.{IsReached}
-use Rattle.page.proofs.index.descend.Given as goal
-
-abbrev pub invariant-loop-level : goal.invariant-loop-level
-invariant-loop-level l = IsReached l.nodes l.depth l.n l._level l.node

@@ -1,0 +1,5 @@
+use Rattle.std.proofs.Common.{◌≡◌, replicate}
+use Rattle.page_frames.proofs.frames.blank_frames.Given as goal
+
+abbrev pub invariant-loop-frame : goal.invariant-loop-frame
+invariant-loop-frame l = l.frames.items ≡ replicate l._frame (replicate l.fn.words 0)
