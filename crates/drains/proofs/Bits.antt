@@ -12,7 +12,7 @@ use Rattle.model.specs.Bits.{of_page, bit_at, put_bit, with_bit}
 use Rattle.model.specs.States.{change_at}
 use Rattle.drains.specs.Waiting.{noting, IsOther, AreWaiting}
 use Rattle.page.proofs.Untouched.{parted}
-use Rattle.part_scans.proofs.Changed.{alter, changed_again, changed_is, changed_two}
+use Rattle.model.proofs.Lists.{alter, changed_again, changed_is, changed_two}
 use Rattle.page.proofs.Changes.{set_two}
 
 -- ---- bits by addresses

@@ -15,8 +15,8 @@ use Rattle.model.specs.Holding.{AreRowsOf}
 use Rattle.model.proofs.Memory.{word_on_page}
 use Rattle.model.proofs.OfPages.{of_page_none, of_page_some}
 use Rattle.model.proofs.Tables.{row_short}
-use Rattle.page.specs.Kept as kept_specs
-use Rattle.page.specs.Kept.{objects_in, sizes_in}
+use Rattle.page_frames.specs.Kept as kept_specs
+use Rattle.page_frames.specs.Kept.{objects_in, sizes_in}
 
 -- it is that of the header at the object's offset
 pub size_in : (h : HeapState) (n o : ℕ) (ws : List ℕ) → o < h.store.words → words_at h.store n ≡ Some ws

@@ -1,5 +1,5 @@
 -- Live objects that are kept with a frame.
-use Rattle.std.proofs.Common.{◌≡◌, ℕ, Bool, List, [], ◌∷◌, ◌++◌, ◌∙◌, Option, Some, None, refl, ap, ap₂, subst}
+use Rattle.std.proofs.Common.{◌≡◌, ℕ, Bool, List, [], ◌∷◌, ◌++◌, ◌∙◌, Option, Some, None, ap, ap₂, subst}
 use Rattle.std.specs.Prelude.{IfSome}
 use Rattle.layout.specs.declared.shape.Layout.{Layout}
 use Rattle.forward.specs.Objects.{ObjectsState}

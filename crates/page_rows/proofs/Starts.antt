@@ -13,7 +13,7 @@ use Rattle.model.specs.States.{change_at}
 use Rattle.model.specs.Stores.{StoreState}
 use Rattle.model.specs.declared.records.Forwarding.{Forwarding}
 use Rattle.forward.specs.Noting.{place_to_copy}
-use Rattle.part_scans.proofs.Changed.{alter, changed_again, changed_is}
+use Rattle.model.proofs.Lists.{alter, changed_again, changed_is}
 use Rattle.page.specs.declared.targets.PageRun.{PageRun}
 use Rattle.page.specs.declared.targets.Target.{Target}
 use Rattle.page.specs.Filling.{AllHaveEntries, all_filled, runs_of}

@@ -10,12 +10,11 @@ use Rattle.std.proofs.lemmas.Bool.{cases_eq, true≢false}
 use Rattle.std.proofs.lemmas.Option.{same_Some}
 use Rattle.model.specs.Bits.{put_bit}
 use Rattle.model.specs.States.{change_at, change_found}
-use Rattle.model.proofs.Lists.{get_set_same, get_set_other}
+use Rattle.model.proofs.Lists.{get_set_same, get_set_other, changed_again, changed_there, changed_two, set_again}
 use Rattle.model.proofs.Tables.{length_changed}
 use Rattle.page.specs.declared.owned.OwnedPage.{OwnedPage}
 use Rattle.part_scans.specs.Scans.{end_on, mark_on, word_of, write_on, is_grey_own, is_marked_own, bit_in}
 use Rattle.part_scans.specs.Waiting.{IsNoneOf, IsWaiting, all_grey, grey_at, grey_on, white_on}
-use Rattle.part_scans.proofs.Changed.{changed_again, changed_there, changed_two, set_again}
 use Rattle.page.proofs.Changes.{set_two}
 
 -- ---- one page

@@ -1,7 +1,6 @@
 pub mod Words
 pub mod Scanned
 pub mod Taken
-pub mod Changed
 pub mod Greying
 pub mod Waits
 pub mod Marked

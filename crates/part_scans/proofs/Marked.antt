@@ -8,7 +8,7 @@ use Rattle.std.proofs.lemmas.Bool.Decides.{nat_tests}
 use Rattle.refword.specs.Words.{bits_of}
 use Rattle.model.specs.References.{read_reference}
 use Rattle.model.specs.States.{Reference, change_at}
-use Rattle.model.proofs.Lists.{get_within}
+use Rattle.model.proofs.Lists.{get_within, changed_there}
 use Rattle.std.proofs.lemmas.Option.{get_or_from_slice_get}
 use Rattle.page.specs.declared.owned.OwnedPage.{OwnedPage}
 use Rattle.part_scans.specs.Scenes.{SceneState, marked_in, refs_of}
@@ -18,7 +18,6 @@ use Rattle.part_scans.specs.Scans.{send_words}
 use Rattle.part_scans.specs.Scans.{is_grey_own, is_marked_own, word_of, write_on}
 use Rattle.part_scans.specs.Waiting.{AreWaiting, Does, IsNext, MarksWords, WaitsOn, all_grey, grey_at, grey_on}
 use Rattle.part_scans.specs.Waiting.{place_of, places_of, white_on}
-use Rattle.part_scans.proofs.Changed.{changed_there}
 use Rattle.part_scans.proofs.Greying.{end_leaves, grey_leaves, greyed_ended, greyed_first, greyed_length}
 use Rattle.part_scans.proofs.Greying.{greyed_marked, greyed_more, greyed_two, greyed_word, grey_waits}
 use Rattle.part_scans.proofs.Greying.{waiting_marked, write_goes, write_leaves}

@@ -7,11 +7,10 @@ use Rattle.std.proofs.lemmas.Bool.{cases_eq}
 use Rattle.std.proofs.lemmas.Option.{same_Some}
 use Rattle.model.specs.Bits.{put_bit}
 use Rattle.model.specs.States.{change_at, change_found}
-use Rattle.model.proofs.Lists.{get_set_same, get_set_other}
+use Rattle.model.proofs.Lists.{get_set_same, get_set_other, changed_again, changed_there}
 use Rattle.page.specs.declared.owned.OwnedPage.{OwnedPage}
 use Rattle.part_scans.specs.Scans.{mark_on}
 use Rattle.part_scans.specs.Waiting.{AreWaiting, IsNoneOf, IsWaiting, all_grey, grey_on, white_on}
-use Rattle.part_scans.proofs.Changed.{changed_again, changed_there}
 use Rattle.part_scans.proofs.Greying.{Leaves, greyed_more, greyed_two, mark_goes, mark_leaves, set_here, white_leaves}
 
 pub waits_still : (ps : List OwnedPage) (j : ℕ) (f : OwnedPage → OwnedPage) (x : ℕ × ℕ) → Leaves f → IsWaiting ps x

@@ -1,6 +1,6 @@
 -- Trees in a list: the nodes below node n are 2 * n and 2 * n + 1.
 use Rattle.std.specs.Prelude.{◌≡◌, ◌≢◌, ℕ, ◌+◌, ◌*◌, ◌^◌, ◌<◌, ◌≤◌, max, List, drop, length, slice_index, take}
-use Rattle.tournaments.specs.declared.Tournament.TheInside.{Inside}
+use Rattle.tournaments.specs.declared.tournament.Tournament.TheInside.{Inside}
 
 -- a node has the greater of the two numbers below it
 abbrev pub IsWinner : List ℕ → ℕ → Type 0

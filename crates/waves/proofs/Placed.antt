@@ -13,7 +13,7 @@ use Rattle.model.specs.Owning.{IsStore}
 use Rattle.model.specs.States.{HeapState, change_at}
 use Rattle.model.specs.Stores.{StoreState, page_at, frame_in, at_offset, spot_of, word_in, word_at}
 use Rattle.model.specs.Stores.{with_word, with_words, changed_in, changed_frame}
-use Rattle.model.proofs.Lists.{get_within}
+use Rattle.model.proofs.Lists.{get_within, changed_there}
 use Rattle.model.proofs.Tables.{get_map, rows_many}
 use Rattle.waves.specs.Waves.{applied}
 use Rattle.page.specs.Owned.{put_frame, words_or}
@@ -21,7 +21,6 @@ use Rattle.page.specs.declared.owned.OwnedPage.{OwnedPage}
 use Rattle.page.proofs.Copied.{same_set}
 use Rattle.page.proofs.Keeping.{page_at_record}
 use Rattle.part_scans.specs.Scans.{mark_on, end_on, write_on, word_of}
-use Rattle.part_scans.proofs.Changed.{changed_there}
 use Rattle.heap.specs.Owning.{put_page, put_pages}
 use Rattle.waves.specs.Parts.{sent_to, FitsPage, FitsPages}
 use Rattle.waves.proofs.Placing.{set_in, put_all, AreDistinct, set_all, put_first, put_read}

@@ -1,7 +1,7 @@
 use Rattle.std.proofs.Common.{◌≡◌, ℕ, List, Some, sym, subst}
 use Rattle.model.specs.States.{HeapState}
 use Rattle.model.specs.Stores.{words_at}
-use Rattle.page.specs.Kept.{objects_in}
+use Rattle.page_frames.specs.Kept.{objects_in}
 use Rattle.heap.proofs.Sizes.{objects_there}
 use Rattle.heap.proofs.heap.Heap.keep_objects.Goals as goal
 

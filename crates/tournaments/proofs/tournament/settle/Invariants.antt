@@ -1,6 +1,6 @@
 use Rattle.std.proofs.Common.{◌≡◌, ◌<◌, ◌*◌, ◌/◌, length, drop}
 use Rattle.tournaments.specs.Tournaments.{IsTreeBut}
-use Rattle.tournaments.proofs.settle.Given as goal
+use Rattle.tournaments.proofs.tournament.settle.Given as goal
 
 abbrev pub invariant-loop-node : goal.invariant-loop-node
 invariant-loop-node l = record {

@@ -1,6 +1,6 @@
 use Rattle.std.proofs.Common.{◌≡◌, ◌<◌, ◌≤◌, ◌*◌, length, drop, ℕ}
 use Rattle.tournaments.specs.Tournaments.{IsWinner}
-use Rattle.tournaments.proofs.link.Given as goal
+use Rattle.tournaments.proofs.tournament.link.Given as goal
 
 abbrev pub invariant-loop-node : goal.invariant-loop-node
 invariant-loop-node l = record {

@@ -2,7 +2,7 @@ use Rattle.std.proofs.Common.{◌≡◌, ◌<◌, ◌+◌, ◌∙◌, drop, take
 use Rattle.std.specs.Vec.{with_item, with_items}
 use Rattle.std.proofs.lemmas.List.{length-set, with_items_is}
 use Rattle.tournaments.proofs.Trees.{length_numbers, number_set, rest_same}
-use Rattle.tournaments.proofs.Tournament.set.Goals as goal
+use Rattle.tournaments.proofs.tournament.Tournament.set.Goals as goal
 
 pub invariant_of-self : goal.invariant_of-self
 invariant_of-self c =

@@ -1,7 +1,7 @@
 use Rattle.std.proofs.Common.{◌*◌, arith}
 use Rattle.tournaments.proofs.Trees.{at_leaf, at_root, inner_node, to_left, to_right}
-use Rattle.tournaments.proofs.descend.Goals as goal
-use Rattle.tournaments.proofs.descend.Goals.{then-nodes-node, else-nodes-node}
+use Rattle.tournaments.proofs.tournament.descend.Goals as goal
+use Rattle.tournaments.proofs.tournament.descend.Goals.{then-nodes-node, else-nodes-node}
 
 pub loop-level-init : goal.loop-level-init
 loop-level-init c = at_root c.args.nodes.now c.args.depth c.args.n c.requires.root

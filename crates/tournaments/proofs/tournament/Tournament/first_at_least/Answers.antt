@@ -3,7 +3,7 @@ use Rattle.std.proofs.Math.Nat.{one-le-pow}
 use Rattle.std.proofs.lemmas.List.{get_or_read}
 use Rattle.tournaments.specs.Tournaments.{IsFirstFrom}
 use Rattle.tournaments.proofs.Trees.{found_first, found_nowhere}
-use Rattle.tournaments.proofs.Tournament.first_at_least.Goals as goal
+use Rattle.tournaments.proofs.tournament.Tournament.first_at_least.Goals as goal
 
 pub returns-then-index-n : goal.returns-then-index-n
 returns-then-index-n c =

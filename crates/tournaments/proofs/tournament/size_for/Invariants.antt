@@ -1,5 +1,5 @@
 use Rattle.std.proofs.Common.{◌≡◌, ◌<◌, ◌≤◌, ◌^◌, ◌-◌}
-use Rattle.tournaments.proofs.size_for.Given as goal
+use Rattle.tournaments.proofs.tournament.size_for.Given as goal
 
 abbrev pub invariant-loop-width : goal.invariant-loop-width
 invariant-loop-width l = record { power : l.width ≡ 2 ^ l.depth; range : l.width ≤ 2 ^ 21; deep : l.depth < l.width }

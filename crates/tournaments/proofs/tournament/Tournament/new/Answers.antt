@@ -2,7 +2,7 @@ use Rattle.std.proofs.Common.{◌≡◌, ℕ, ◌+◌, ◌-◌, ◌*◌, ◌++�
 use Rattle.std.specs.Vec.{with_items}
 use Rattle.std.proofs.lemmas.List.{with_items_is}
 use Rattle.tournaments.proofs.Trees.{leaf_same, rest_zero}
-use Rattle.tournaments.proofs.Tournament.new.Goals as goal
+use Rattle.tournaments.proofs.tournament.Tournament.new.Goals as goal
 
 pub invariant_of-result : goal.invariant_of-result
 invariant_of-result c =

@@ -1,7 +1,7 @@
 -- Elements of a list that are changed one after another.
 use Rattle.std.proofs.Common.{◌≡◌, ℕ, zero, suc, Bool, List, [], ◌∷◌, set, Option, Some, None, refl, sym, ◌∙◌, ap}
 use Rattle.std.specs.List.{slice_get}
-use Rattle.model.specs.States.{change_at, change_found}
+use Rattle.sequences.specs.Elements.{change_at, change_found}
 
 abbrev pub alter : {X : Type 0} → List X → ℕ → (X → X) → List X
 alter [] i f = []
