@@ -48,8 +48,8 @@ use thread_records::{Thread, Threads};
 /// function requires that its step has passed the tests before it (the thread exists, numbers are in range, it isn't
 /// parked and has no open barrier). `cycle` makes these tests; programs call `Mutate` of `managed`. The row
 /// functions of loads are in `barrier`, those of checkpoints in `checkpoint`, those of marks in `marker`, those of
-/// relocation in `relocate`; they use the readers here and raw edits. Threads, workers, globals and registers count
-/// from 0.
+/// relocation in `relocate`, and steps in one go in `fast_paths`; they use the readers here and raw edits. Threads,
+/// workers, globals and registers count from 0.
 ///
 /// **Raw edits** are the traits `RawEdits` and `RawCollectorEdits`, and the calls `raw_..`. Each makes its edit and
 /// tests nothing, so one of them can leave a heap that represents no reference model. They are for the crates that
