@@ -45,6 +45,7 @@ for named in \
     test_library:emptying::a_heap_is_verified \
     test_library:sharing::a_heap_is_shared \
     test_books:books::a_run_is_accepted \
+    test_books:choices::pages_are_chosen \
     test_books:marks::a_drain \
     test_verifier:verified::the_image_of_an_object_that_moves \
     test_scripts:scripts::steps_of_orders \
@@ -56,7 +57,6 @@ for named in \
     test_sharing:steps::steps_of_threads \
     test_sharing:steps::pages_by_halves \
     test_sharing:openings::a_book_is_opened \
-    test_sharing:choices::pages_are_chosen \
     test_sharing:lists::a_list_of_steps \
     test_sharing:lists::a_drain_in_two_parts \
     test_script_threads:wants::hints_come_back \

@@ -1,8 +1,11 @@
-//! The tests of recorded heaps: steps with their answers, complete loads, drains, copies by halves, and histories.
+//! The tests of recorded heaps: steps with their answers, complete loads, drains, copies by halves, histories, and
+//! relocation-set selection.
 #![tactic(auto)]
 
 #[cfg(test)]
 mod books;
+#[cfg(test)]
+mod choices;
 #[cfg(test)]
 mod halving;
 #[cfg(test)]

@@ -1,9 +1,7 @@
-//! The tests of shared recorded heaps, compared with those of one thread, and of relocation-set selection; and of
-//! shared or borrowed recorded heaps when out of memory, where each allocation of a test fails in turn.
+//! The tests of shared recorded heaps, compared with those of one thread; and of shared or borrowed recorded heaps when
+//! out of memory, where each allocation of a test fails in turn.
 #![tactic(auto)]
 
-#[cfg(test)]
-mod choices;
 #[cfg(test)]
 mod draining;
 #[cfg(test)]
