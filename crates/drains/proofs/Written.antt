@@ -6,7 +6,7 @@ use Rattle.model.specs.Scans.{with_marked_place}
 use Rattle.model.specs.States.{HeapState}
 use Rattle.model.specs.Stores.{StoreState, page_at, with_word, with_words}
 use Rattle.page.specs.Usable.{usable_frame}
-use Rattle.heap.specs.Frames.{IsOnFrame}
+use Rattle.heap.specs.AtOnce.{IsOnFrame}
 use Rattle.drains.specs.Drains.{marked_field}
 use Rattle.drains.specs.Waiting.{all_noted}
 

@@ -5,7 +5,7 @@ ghost use Rattle.std.specs.Prelude.{reverse};
 ghost use Rattle.refword.specs.Words.{address_in};
 ghost use Rattle.model.specs.Marks.{resolve};
 ghost use Rattle.model.specs.References.{read_reference};
-ghost use Rattle.heap.specs.Frames.{IsOnFrame};
+ghost use Rattle.heap.specs.AtOnce.{IsOnFrame};
 ghost use Rattle.drains.specs.Drains.{refs_at, marked_field, marked_fields, scanned};
 ghost use Rattle.drains.specs.Waiting.{all_noted, AreWaiting, WaitBeside};
 ghost use Rattle.heap.specs.Marking.{marked_at};

@@ -36,7 +36,7 @@ use Rattle.model.specs.Threads.{is_parked_in, set_barrier_of, barrier_of, has_cr
 use Rattle.heap.proofs.Keeping.{thread_keeps}
 use Rattle.model.proofs.Lists.{get_within, get_set_same}
 use Rattle.model.proofs.Tables.{length_changed}
-use Rattle.heap.specs.Frames.{IsOpenTo}
+use Rattle.heap.specs.AtOnce.{IsOpenTo}
 use Rattle.fast_paths.specs.AtOnce.{begun, LoadsAtOnce, NamesAtOnce, ReadsAtOnce, SourceAtOnce, UsesAtOnce, IsQuiet, mark_is_due, GivesDatum, MayDoAtOnce}
 use Rattle.fast_paths.specs.AtOnce.{HoldsAtOnce}
 

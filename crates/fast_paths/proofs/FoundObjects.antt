@@ -31,7 +31,7 @@ use Rattle.page.proofs.Behind.{further_on, same_page}
 use Rattle.page.proofs.Untouched.{word_stays}
 use Rattle.page.proofs.Usable.{usable_unprotected}
 use Rattle.fast_paths.specs.declared.found.FoundObject.{FoundObject}
-use Rattle.heap.specs.Frames.{IsOnFrame, IsOpenTo}
+use Rattle.heap.specs.AtOnce.{IsOnFrame, IsOpenTo}
 use Rattle.fast_paths.specs.AtOnce.{HoldsAtOnce, IsQuiet, LoadsAtOnce, NamesAtOnce, UsesAtOnce}
 use Rattle.fast_paths.specs.Found.{FindsObject}
 use Rattle.heap.proofs.LoadedWords.{read_twice}

@@ -16,7 +16,7 @@ use Rattle.model.specs.Registers.{register_of, usable, usable_or_null}
 use Rattle.model.specs.States.{Reference, HeapState}
 use Rattle.model.specs.Stores.{word_at}
 use Rattle.model.specs.Phases.{is_marking, same_bit}
-use Rattle.heap.specs.Frames.{IsOpenTo}
+use Rattle.heap.specs.AtOnce.{IsOpenTo}
 
 -- the heap after a load for a register has begun, which has read a word at a place
 abbrev pub begun : HeapState → ℕ → ℕ → Place → Reference → HeapState

@@ -3,7 +3,7 @@ use Rattle.std.specs.Prelude.{◌≡◌, ◌≤◌, ◌+◌, ◌%◌, ℕ, Some}
 use Rattle.layout.specs.Objects.{size_of}
 use Rattle.model.specs.Data.{layout_at}
 use Rattle.model.specs.States.{HeapState}
-use Rattle.heap.specs.Frames.{IsOnFrame}
+use Rattle.heap.specs.AtOnce.{IsOnFrame}
 use Rattle.fast_paths.specs.AtOnce.{UsesAtOnce}
 use Rattle.fast_paths.specs.declared.found.FoundObject.{FoundObject}
 

@@ -1,7 +1,7 @@
 //! Steps that are done at once if no trap is due: the read barrier's fast path.
 
 ghost use Rattle.std.specs.Prelude.{◌≡◌, true, false, None, IfSome};
-ghost use Rattle.heap.specs.Frames.{IsOnFrame, IsOpenTo};
+ghost use Rattle.heap.specs.AtOnce.{IsOnFrame, IsOpenTo};
 ghost use Rattle.fast_paths.specs.AtOnce.{HoldsAtOnce, IsQuiet, mark_is_due};
 ghost use Rattle.fast_paths.specs.AtOnce.{GivesDatum, GivesSame, MayDoAtOnce, NamesHeader, SourceAtOnce, UsesAtOnce};
 ghost use Rattle.model.specs.declared.steps.Step.TheVariants as steps;

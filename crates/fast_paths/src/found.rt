@@ -6,7 +6,7 @@ ghost use Rattle.model.specs.References.{read_reference};
 ghost use Rattle.model.specs.Stores.{word_at};
 ghost use Rattle.model.specs.declared.steps.Step.TheVariants as steps;
 ghost use Rattle.page.specs.Whole.{AreWhole, IsRecorded};
-ghost use Rattle.heap.specs.Frames.{IsOnFrame, IsOpenTo};
+ghost use Rattle.heap.specs.AtOnce.{IsOnFrame, IsOpenTo};
 ghost use Rattle.fast_paths.specs.AtOnce.{GivesDatum, IsQuiet, MayDoAtOnce, MayLoadAtOnce, NamesHeader};
 ghost use Rattle.fast_paths.specs.AtOnce.{SourceAtOnce, UsesAtOnce};
 ghost use Rattle.fast_paths.specs.Found.{FindsObject};

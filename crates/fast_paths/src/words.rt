@@ -4,7 +4,7 @@ ghost use Rattle.std.specs.Prelude.{◌≡◌, ◌+◌, ◌^◌, ◌<◌, IfSome
 ghost use Rattle.model.specs.Data.{datum_at, layout_at};
 ghost use Rattle.model.specs.References.{field_at};
 ghost use Rattle.model.specs.Stores.{word_at};
-ghost use Rattle.heap.specs.Frames.{IsOnFrame};
+ghost use Rattle.heap.specs.AtOnce.{IsOnFrame};
 
 use heap::Heap;
 use layout::{Layout, layout_of};

@@ -13,7 +13,7 @@ use Rattle.page.specs.Usable.{usable_frame}
 use Rattle.page.proofs.Usable.{usable_unprotected}
 use Rattle.model.specs.Stores.{StoreState, with_word}
 use Rattle.heap.proofs.Keeping.{store_keeps}
-use Rattle.heap.specs.Frames.{IsOpenTo}
+use Rattle.heap.specs.AtOnce.{IsOpenTo}
 
 -- an address on a usable page is on no protected one
 pub open_where : (h : HeapState) (a : ℕ) (o : Option ℕ) → o ≡ usable_frame h.store (a / h.store.words)

@@ -1,4 +1,4 @@
-pub mod Frames
+pub mod AtOnce
 pub mod Globals
 pub mod Views
 pub mod Making

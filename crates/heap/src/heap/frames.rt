@@ -4,7 +4,7 @@ ghost use Rattle.std.specs.Prelude.{◌≡◌, ◌+◌, ◌^◌, ◌<◌, IfSome
 ghost use Rattle.model.specs.Stores.{with_word};
 ghost use Rattle.refword.specs.Words.{IsAddress};
 ghost use Rattle.page.specs.Whole.{IsRecorded};
-ghost use Rattle.heap.specs.Frames.{IsOnFrame, IsOpenTo};
+ghost use Rattle.heap.specs.AtOnce.{IsOnFrame, IsOpenTo};
 
 use crate::heap::Heap;
 use refword::Addr;

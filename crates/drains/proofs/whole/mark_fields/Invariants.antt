@@ -1,5 +1,5 @@
 use Rattle.std.proofs.Common.{◌≡◌, ◌-◌, reverse}
-use Rattle.heap.specs.Frames.{IsOnFrame}
+use Rattle.heap.specs.AtOnce.{IsOnFrame}
 use Rattle.drains.specs.Drains.{marked_fields}
 use Rattle.drains.specs.Waiting.{all_noted, WaitBeside}
 use Rattle.drains.proofs.whole.mark_fields.Given as goal

@@ -1,7 +1,7 @@
 use Rattle.std.proofs.Common.{subst}
 use Rattle.std.specs.Prelude.{IfSome}
 use Rattle.model.specs.States.{HeapState}
-use Rattle.heap.specs.Frames.{IsOpenTo}
+use Rattle.heap.specs.AtOnce.{IsOpenTo}
 use Rattle.heap.specs.Views.{heap_of}
 use Rattle.heap.proofs.Frames.{open_where}
 use Rattle.heap.proofs.heap.Heap.frame_at_once.Goals as goal

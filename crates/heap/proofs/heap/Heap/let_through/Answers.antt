@@ -1,6 +1,6 @@
 use Rattle.std.proofs.Common.{◌∙◌, sym, subst}
 use Rattle.std.specs.Prelude.{IfSome}
-use Rattle.heap.specs.Frames.{IsOpenTo}
+use Rattle.heap.specs.AtOnce.{IsOpenTo}
 use Rattle.heap.proofs.Frames.{let_at_once}
 use Rattle.heap.proofs.heap.Heap.let_through.Goals as goal
 

@@ -1,4 +1,4 @@
--- Frames of pages that have memory and aren't protected.
+-- Pages that have memory and aren't protected, so that steps on their objects are done at once.
 use Rattle.std.specs.Prelude.{◌≡◌, ◌/◌, ℕ, Some, false}
 use Rattle.model.specs.States.{HeapState}
 use Rattle.model.specs.Stores.{is_protected, state_at}
