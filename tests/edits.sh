@@ -9,6 +9,10 @@ cd "$(dirname "$0")" || exit 1
 tools=$PWD
 . ./begin.sh
 
+# As where changes are tested by a service: there 'rt ci' takes no names.
+CI=true
+export CI
+
 # crate NAME BELOW: a crate with one function and an edit of it that must fail.
 crate() {
     mkdir -p "crates/$1/src" "crates/$1/must-fail" || exit 1
