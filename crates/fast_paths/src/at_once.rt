@@ -135,7 +135,7 @@ pub fn store_at_once(heap: &mut Heap, thread: u32, object: u32, field: u32, sour
     let Some(ahead) = field_on(heap, &spot, field) else {
         return false;
     };
-    heap.raw_set_word_of(spot.frame, spot.address, ahead, word.bits())
+    heap.raw_set_word_at(spot.frame, spot.address, ahead, word.bits())
 }
 
 /// Writes a data word of an object, if no test rejects it. Returns whether it did; else nothing is done.
@@ -149,5 +149,5 @@ pub fn set_datum_at_once(heap: &mut Heap, thread: u32, object: u32, index: u32, 
     let Some(ahead) = datum_on(heap, &spot, index) else {
         return false;
     };
-    heap.raw_set_word_of(spot.frame, spot.address, ahead, value)
+    heap.raw_set_word_at(spot.frame, spot.address, ahead, value)
 }

@@ -209,7 +209,7 @@ pub fn store_found(
         address: found.address,
         frame: found.frame,
     };
-    heap.raw_set_word_of(spot.frame, spot.address, 1 + u64::from(field), word.bits())
+    heap.raw_set_word_at(spot.frame, spot.address, 1 + u64::from(field), word.bits())
 }
 
 /// Writes a data word of an object that was found, as `set_datum_at_once` does.
@@ -236,5 +236,5 @@ pub fn set_datum_found(
         address: found.address,
         frame: found.frame,
     };
-    heap.raw_set_word_of(spot.frame, spot.address, ahead, value)
+    heap.raw_set_word_at(spot.frame, spot.address, ahead, value)
 }

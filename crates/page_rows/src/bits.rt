@@ -59,7 +59,7 @@ pub fn mark_at(mark: &mut Rows, todo: &mut IndexedRows, store: &Store, address: 
 /// Marks the object at an address, by its page and its offset there. Returns whether it was marked before, or `None` if
 /// its page has no mark bitmap.
 #[inline(always)]
-pub fn set_first(
+pub fn test_and_mark(
     mark: &mut Rows,
     store: &Store,
     address: Addr,

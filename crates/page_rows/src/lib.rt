@@ -9,7 +9,7 @@ mod owning;
 mod runs;
 mod starting;
 
-pub use bits::{bit_at, clear_indexed_bit, mark_at, put_bit, put_indexed_bit, set_first};
+pub use bits::{bit_at, clear_indexed_bit, mark_at, put_bit, put_indexed_bit, test_and_mark};
 pub use ending::{end_pages, give_up_indexed_rows, give_up_rows};
 pub use opening::{PageMemory, PageRows, blank_rows, open_indexed_row, open_row};
 pub use owning::swap_all_rows;

@@ -17,7 +17,7 @@ use crate::heap::Heap;
 use model::{Phase, Scan};
 use page_rows::{
     clear_indexed_bit, end_pages, give_up_indexed_rows, give_up_rows, mark_at, put_indexed_bit,
-    set_first,
+    test_and_mark,
 };
 use refword::{Addr, Word};
 use thread_records::Threads;
@@ -91,7 +91,7 @@ impl Heap {
         requires offset { offset ≡ place % self.old.store.words }
         ensures { MarksApart self.old place result self.new }
     {
-        match set_first(&mut self.mark, &self.store, place, page, offset) {
+        match test_and_mark(&mut self.mark, &self.store, place, page, offset) {
             Some(false) => true,
             Some(true) => false,
             None => {

@@ -47,7 +47,7 @@ impl Heap {
 
     /// The same by the number of the address.
     #[inline(always)]
-    pub fn raw_set_word_of(&mut self, frame: u32, address: u64, ahead: u64, value: u64) -> bool
+    pub fn raw_set_word_at(&mut self, frame: u32, address: u64, ahead: u64, value: u64) -> bool
         requires frame { IsOnFrame self.old address frame }
         requires near { ahead < 2 ^ 17 }
         ensures { self.new ≡ (if result
