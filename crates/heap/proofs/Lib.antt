@@ -2,7 +2,6 @@ pub mod Frames
 pub mod LoadedWords
 pub mod Births
 pub mod Cycling
-pub mod Counting
 pub mod Keeping
 pub mod Marking
 pub mod Writing

@@ -1,5 +1,4 @@
 pub mod AtOnce
-pub mod Globals
 pub mod Views
 pub mod Making
 pub mod Taking

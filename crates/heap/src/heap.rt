@@ -22,10 +22,10 @@ ghost use Rattle.std.specs.Prelude.{◌≡◌, ◌<◌, ◌≤◌, ◌*◌, ◌+
 ghost use Rattle.model.specs.Cycles.{is_lent};
 ghost use Rattle.model.specs.Owning.{IsStore};
 ghost use Rattle.model.specs.Holding.{IsHeap};
-ghost use Rattle.heap.specs.Globals.{is_todo};
+ghost use Rattle.global_roots.specs.Globals.{is_todo};
 
-use crate::globals::Globals;
 use forward::Sides;
+use global_roots::Globals;
 use markbits::{IndexedRows, Rows};
 use model::{Config, Global, Phase, Scan};
 use page::Store;

@@ -2,7 +2,6 @@
 #![tactic(auto)]
 
 mod fault;
-mod globals;
 mod heap;
 
 pub use fault::NewFault;

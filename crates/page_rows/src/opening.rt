@@ -1,11 +1,11 @@
 //! Memory of pages that open: their words, and a bitmap of each kind.
 
-ghost use Rattle.std.specs.Prelude.{◌≡◌, ◌-◌, ◌==◌, slice_set, if◌then◌else◌, IfOk};
-ghost use Rattle.page_rows.specs.Opening.{AreClear};
+ghost use Rattle.std.specs.Prelude.{◌≡◌, IfOk};
+ghost use Rattle.page_rows.specs.Opening.{AreClear, IsBlank, opened};
 
 use markbits::{IndexedRows, Row, Rows};
 use model::Buffer;
-use page::Frame;
+use page::{Frame, Store};
 use std::alloc::{AllocError, Global};
 
 /// The bitmaps of one page. When a page opens, each of them has a clear bit for each of its words.
@@ -44,7 +44,7 @@ impl PageRows {
 }
 
 /// Returns clear bitmaps of `words` bits, of memory that these tables keep, or new. Fails only if out of memory.
-pub fn blank_rows(
+fn blank_rows(
     starts: &mut Rows,
     live: &mut Rows,
     mark: &mut Rows,
@@ -72,9 +72,29 @@ pub struct PageMemory {
     pub rows: PageRows,
 }
 
+/// Returns memory for a page that is to open, of what a store and these tables keep, or new. Fails only if out of memory.
+pub fn blank_memory(
+    store: &mut Store,
+    starts: &mut Rows,
+    live: &mut Rows,
+    mark: &mut Rows,
+    todo: &mut IndexedRows,
+) -> Result<PageMemory, AllocError>
+    ensures value { IfOk result (IsBlank store.old.words) }
+    ensures store { store.new ≡ store.old }
+    ensures starts { starts.new ≡ starts.old }
+    ensures live { live.new ≡ live.old }
+    ensures mark { mark.new ≡ mark.old }
+    ensures todo { todo.new ≡ todo.old }
+{
+    let frame = store.blank()?;
+    let rows = blank_rows(starts, live, mark, todo, store.page_words())?;
+    Ok(PageMemory { frame, rows })
+}
+
 /// Gives a page its bitmap, if a buffer is the first on the page.
-pub fn open_row(rows: &mut Rows, buffer: Buffer, row: Row)
-    ensures { rows.new ≡ (if buffer.next == 0 then slice_set rows.old (buffer.page - 1) row else rows.old) }
+fn open_row(rows: &mut Rows, buffer: Buffer, row: Row)
+    ensures { rows.new ≡ opened buffer row rows.old }
 {
     if buffer.next == 0 {
         rows.place(buffer.page.saturating_sub(1) as usize, row);
@@ -82,10 +102,30 @@ pub fn open_row(rows: &mut Rows, buffer: Buffer, row: Row)
 }
 
 /// The same for bitmaps with an index.
-pub fn open_indexed_row(rows: &mut IndexedRows, buffer: Buffer, row: Row)
-    ensures { rows.new ≡ (if buffer.next == 0 then slice_set rows.old (buffer.page - 1) row else rows.old) }
+fn open_indexed_row(rows: &mut IndexedRows, buffer: Buffer, row: Row)
+    ensures { rows.new ≡ opened buffer row rows.old }
 {
     if buffer.next == 0 {
         rows.place(buffer.page.saturating_sub(1) as usize, row);
     }
+}
+
+/// Gives a page its bitmaps, if a buffer is the first on the page.
+pub fn open_rows(
+    starts: &mut Rows,
+    live: &mut Rows,
+    mark: &mut Rows,
+    todo: &mut IndexedRows,
+    buffer: Buffer,
+    rows: PageRows,
+)
+    ensures starts { starts.new ≡ opened buffer rows.starts starts.old }
+    ensures live { live.new ≡ opened buffer rows.live live.old }
+    ensures mark { mark.new ≡ opened buffer rows.mark mark.old }
+    ensures todo { todo.new ≡ opened buffer rows.todo todo.old }
+{
+    open_row(starts, buffer, rows.starts);
+    open_row(live, buffer, rows.live);
+    open_row(mark, buffer, rows.mark);
+    open_indexed_row(todo, buffer, rows.todo);
 }

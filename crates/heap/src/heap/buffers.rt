@@ -14,7 +14,7 @@ ghost use Rattle.model.specs.declared.steps.Step.TheVariants as steps;
 
 use crate::heap::Heap;
 use model::{Buffer, Refusal, Room};
-use page_rows::{PageRows, open_indexed_row, open_row};
+use page_rows::{PageRows, open_rows};
 use std::alloc::AllocError;
 
 /// Returns why a thread gets no buffer.
@@ -83,10 +83,14 @@ impl Heap {
             Ok(buffer) => buffer,
             Err(room) => return Err(refusal_of(room)),
         };
-        open_row(&mut self.starts, buffer, rows.starts);
-        open_row(&mut self.live, buffer, rows.live);
-        open_row(&mut self.mark, buffer, rows.mark);
-        open_indexed_row(&mut self.todo, buffer, rows.todo);
+        open_rows(
+            &mut self.starts,
+            &mut self.live,
+            &mut self.mark,
+            &mut self.todo,
+            buffer,
+            rows,
+        );
         self.threads.set_buffer(thread, Some(buffer));
         Ok(buffer)
     }

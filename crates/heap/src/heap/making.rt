@@ -6,9 +6,9 @@ ghost use Rattle.model.specs.First.{first_heap, blank_rows, blank_thread};
 ghost use Rattle.heap.specs.Making.{AreBlank, Makes};
 
 use crate::fault::NewFault;
-use crate::globals::Globals;
 use crate::heap::Heap;
 use forward::Sides;
+use global_roots::Globals;
 use markbits::{IndexedRows, Rows};
 use model::{Config, Phase, Scan};
 use page::{Store, many, record_count};

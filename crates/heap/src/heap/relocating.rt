@@ -20,7 +20,7 @@ use crate::heap::Heap;
 use forward::Side;
 use layout::layout_of;
 use model::{Buffer, Phase, Room};
-use page_rows::{PageMemory, blank_rows, open_indexed_row, open_row};
+use page_rows::{PageMemory, blank_memory, open_rows};
 use refword::Addr;
 use std::alloc::AllocError;
 use std::thread::Threads;
@@ -85,15 +85,13 @@ impl Heap {
         ensures value { IfOk result (IsBlank self.old.store.words) }
         ensures stays { self.new ≡ self.old }
     {
-        let frame = self.store.blank()?;
-        let rows = blank_rows(
+        blank_memory(
+            &mut self.store,
             &mut self.starts,
             &mut self.live,
             &mut self.mark,
             &mut self.todo,
-            self.store.page_words(),
-        )?;
-        Ok(PageMemory { frame, rows })
+        )
     }
 
     /// Opens a target with this memory: a page for objects that move, of which all words are given out, to no thread.
@@ -108,10 +106,14 @@ impl Heap {
             Ok(buffer) => buffer,
             Err(room) => return Err(room),
         };
-        open_row(&mut self.starts, buffer, rows.starts);
-        open_row(&mut self.live, buffer, rows.live);
-        open_row(&mut self.mark, buffer, rows.mark);
-        open_indexed_row(&mut self.todo, buffer, rows.todo);
+        open_rows(
+            &mut self.starts,
+            &mut self.live,
+            &mut self.mark,
+            &mut self.todo,
+            buffer,
+            rows,
+        );
         Ok(buffer)
     }
 

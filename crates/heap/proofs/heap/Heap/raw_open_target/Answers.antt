@@ -15,10 +15,10 @@ invariant_of-self-2 c =
     let words = ap (λ k. replicate {A = Bool} k false)
     (ap (λ (x : HeapState). x.store.words) (sym c.self.view_is) ∙ sym well.sized.words) in
     opened_keeps h c.take_target.new.self b _ _ _ _ c.self.invariant well
-    (c.open_row.ensures ∙ opened_by w b h.starts _ (λ z. c.requires.rows.starts ∙ words))
-    (c.open_row-2.ensures ∙ opened_by w b h.live _ (λ z. c.requires.rows.live ∙ words))
-    (c.open_row-3.ensures ∙ opened_by w b h.mark _ (λ z. c.requires.rows.mark ∙ words))
-    (c.open_indexed_row.ensures ∙ opened_by w b h.todo _ (λ z. c.requires.rows.todo ∙ words))
+    (c.open_rows.ensures.starts ∙ opened_by w b h.starts _ (λ z. c.requires.rows.starts ∙ words))
+    (c.open_rows.ensures.live ∙ opened_by w b h.live _ (λ z. c.requires.rows.live ∙ words))
+    (c.open_rows.ensures.mark ∙ opened_by w b h.mark _ (λ z. c.requires.rows.mark ∙ words))
+    (c.open_rows.ensures.todo ∙ opened_by w b h.todo _ (λ z. c.requires.rows.todo ∙ words))
 
 pub returns : goal.returns
 returns c =
@@ -31,9 +31,9 @@ returns c =
     (ap (λ (x : HeapState). x.store.words) (sym c.self.view_is) ∙ sym well.sized.words) in (
       ap (λ (x : HeapState). take_target x.store) (sym c.self.view_is) ∙ c.in-Ok.ensures.takes,
       opened_target h t b _ _ _ _
-          (c.open_row.ensures ∙ opened_by w b h.starts _ (λ z. c.requires.rows.starts ∙ words))
-          (c.open_row-2.ensures ∙ opened_by w b h.live _ (λ z. c.requires.rows.live ∙ words))
-          (c.open_row-3.ensures ∙ opened_by w b h.mark _ (λ z. c.requires.rows.mark ∙ words))
-          (c.open_indexed_row.ensures ∙ opened_by w b h.todo _ (λ z. c.requires.rows.todo ∙ words))
+          (c.open_rows.ensures.starts ∙ opened_by w b h.starts _ (λ z. c.requires.rows.starts ∙ words))
+          (c.open_rows.ensures.live ∙ opened_by w b h.live _ (λ z. c.requires.rows.live ∙ words))
+          (c.open_rows.ensures.mark ∙ opened_by w b h.mark _ (λ z. c.requires.rows.mark ∙ words))
+          (c.open_rows.ensures.todo ∙ opened_by w b h.todo _ (λ z. c.requires.rows.todo ∙ words))
           ∙ ap (λ x. with_target x (t, b)) c.self.view_is,
     )

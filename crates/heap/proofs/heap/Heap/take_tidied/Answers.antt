@@ -31,17 +31,17 @@ invariant_of-self-2 c =
     (sym c.self.view_is) c.in-Ok.ensures in
     let g = record h {
       store = t;
-      starts = c.open_row.new.rows;
-      live = c.open_row-2.new.rows;
-      mark = c.open_row-3.new.rows;
-      todo = c.open_indexed_row.new.rows;
+      starts = c.open_rows.new.starts;
+      live = c.open_rows.new.live;
+      mark = c.open_rows.new.mark;
+      todo = c.open_rows.new.todo;
     } in
     thread_keeps g c.args.thread (set_buffer_of (Some b)) c.set_buffer.new.self (opened_keeps h t b _ _ _ _
     c.self.invariant well
-    (c.open_row.ensures ∙ taken_rows s t n b h.starts rows.starts took well.sized.words (λ k. (clear k).starts))
-    (c.open_row-2.ensures ∙ taken_rows s t n b h.live rows.live took well.sized.words (λ k. (clear k).live))
-    (c.open_row-3.ensures ∙ taken_rows s t n b h.mark rows.mark took well.sized.words (λ k. (clear k).mark))
-    (c.open_indexed_row.ensures ∙ taken_rows s t n b h.todo rows.todo took well.sized.words (λ k. (clear k).todo)))
+    (c.open_rows.ensures.starts ∙ taken_rows s t n b h.starts rows.starts took well.sized.words (λ k. (clear k).starts))
+    (c.open_rows.ensures.live ∙ taken_rows s t n b h.live rows.live took well.sized.words (λ k. (clear k).live))
+    (c.open_rows.ensures.mark ∙ taken_rows s t n b h.mark rows.mark took well.sized.words (λ k. (clear k).mark))
+    (c.open_rows.ensures.todo ∙ taken_rows s t n b h.todo rows.todo took well.sized.words (λ k. (clear k).todo)))
     c.set_buffer.ensures (λ x k. well.lies) (λ x. refl)
 
 pub returns-clause-does : goal.returns-clause-does
@@ -60,10 +60,10 @@ returns-clause-does c =
     ∙ sym (ap is_some c.buffer.ensures.value) ∙ sym c.is_some.ensures ∙ c.if-is_some.false in
     ap (λ x. take_outcome x c.args.thread n) (sym c.self.view_is)
     ∙ took h c.args.thread n t b _ _ _ _ c.set_buffer.new.self none is
-    (c.open_row.ensures ∙ taken_rows s t n b h.starts rows.starts is well.sized.words (λ k. (clear k).starts))
-    (c.open_row-2.ensures ∙ taken_rows s t n b h.live rows.live is well.sized.words (λ k. (clear k).live))
-    (c.open_row-3.ensures ∙ taken_rows s t n b h.mark rows.mark is well.sized.words (λ k. (clear k).mark))
-    (c.open_indexed_row.ensures ∙ taken_rows s t n b h.todo rows.todo is well.sized.words (λ k. (clear k).todo))
+    (c.open_rows.ensures.starts ∙ taken_rows s t n b h.starts rows.starts is well.sized.words (λ k. (clear k).starts))
+    (c.open_rows.ensures.live ∙ taken_rows s t n b h.live rows.live is well.sized.words (λ k. (clear k).live))
+    (c.open_rows.ensures.mark ∙ taken_rows s t n b h.mark rows.mark is well.sized.words (λ k. (clear k).mark))
+    (c.open_rows.ensures.todo ∙ taken_rows s t n b h.todo rows.todo is well.sized.words (λ k. (clear k).todo))
     c.set_buffer.ensures
 
 pub returns-clause-buffer : goal.returns-clause-buffer

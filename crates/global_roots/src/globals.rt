@@ -5,7 +5,7 @@ ghost use Rattle.model.specs.Cycles.{set_todo_of};
 ghost use Rattle.model.specs.References.{set_word_of};
 ghost use Rattle.model.specs.Scans.{set_marked_of};
 ghost use Rattle.model.specs.States.{change_at};
-ghost use Rattle.heap.specs.Globals.{is_todo, counted_todo};
+ghost use Rattle.global_roots.specs.Globals.{is_todo, counted_todo};
 
 use model::Global;
 use page::many;
@@ -26,7 +26,7 @@ pub struct Globals {
 impl Model for Globals {
     ghost use Rattle.std.specs.Prelude.{◌≡◌, List};
     ghost use Rattle.model.specs.declared.records.Global.{Global};
-    ghost use Rattle.heap.specs.Globals.{todo_count};
+    ghost use Rattle.global_roots.specs.Globals.{todo_count};
 
     ghost Value = { List Global };
 

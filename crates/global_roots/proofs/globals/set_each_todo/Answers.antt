@@ -1,7 +1,7 @@
 use Rattle.std.proofs.Common.{ap, sym}
 use Rattle.model.specs.Cycles.{set_todo_of}
 use Rattle.thread_records.proofs.Looping.{mapped_more}
-use Rattle.heap.proofs.globals.set_each_todo.Goals as goal
+use Rattle.global_roots.proofs.globals.set_each_todo.Goals as goal
 
 pub loop-global-preserved : goal.loop-global-preserved
 loop-global-preserved c = mapped_more set_todo_of c.args.globals.now c.loop-global.globals

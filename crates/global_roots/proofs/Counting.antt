@@ -12,7 +12,7 @@ use Rattle.model.specs.Cycles.{set_todo_of}
 use Rattle.model.specs.declared.records.Global.{Global}
 use Rattle.model.proofs.Lists.{count_replicate, count_set, count_positive, get_read, as_number}
 use Rattle.model.proofs.Lists.{position_finds, position_passes}
-use Rattle.heap.specs.Globals.{is_todo, counted_todo, todo_count}
+use Rattle.global_roots.specs.Globals.{is_todo, counted_todo, todo_count}
 
 -- none is to be marked in a new heap
 pub none_todo : (n : ℕ) (g : Global) (gs : List Global) → gs ≡ replicate n g → g.todo ≡ false → 0 ≡ todo_count gs
