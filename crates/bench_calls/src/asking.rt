@@ -1,9 +1,8 @@
 //! The calls of the loops. They have no contracts: the proof of a loop over a `Heap` or a `Book` itself would include
 //! all promises of each step, and take minutes.
 
-use cycle::Stepping;
+use cycle::{Actor, Book, Reply, Step, Stepping};
 use heap::Heap;
-use pauseless::{Actor, Book, Reply, Step};
 
 /// The one thread of each heap.
 pub const THREAD: Actor = Actor::Thread(0);

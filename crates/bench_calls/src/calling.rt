@@ -2,7 +2,9 @@
 
 use crate::mixes::{LAST, LIST, Mix, OBJECTS, OTHER, WORDS, config};
 use anyhow::Result;
-use pauseless::{ManagedHeap, Mutate, Refusal, Trap};
+use cycle::Trap;
+use heap::Refusal;
+use managed::{ManagedHeap, Mutate};
 use std::alloc::Global;
 
 const THREAD: u32 = 0;

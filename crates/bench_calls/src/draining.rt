@@ -5,9 +5,10 @@ use crate::lists::build;
 use crate::mixes::{LAST, OTHER, WORDS};
 use crate::trees::trees;
 use anyhow::Result;
-use drains::drain;
-use heap::Heap;
-use pauseless::{Config, Layout, Layouts, Refusal, Step, is_ready, next_drain};
+use cycle::{Step, next_drain};
+use drains::{drain, is_ready};
+use heap::{Config, Heap, Refusal};
+use layout::{Layout, Layouts};
 use std::alloc::Global;
 
 /// The number of the worker.

@@ -2,7 +2,8 @@
 
 use crate::asking::{Steps, THREAD};
 use crate::mixes::{LAST, OTHER, WORDS};
-use pauseless::{Refusal, Step};
+use cycle::Step;
+use heap::Refusal;
 
 /// Puts `count` objects of layout 0 in front of a list, in the present buffer.
 fn link(heap: &mut impl Steps, count: u32) -> Result<(), Refusal> {

@@ -13,7 +13,8 @@
 //! back to the head of its list where it ends.
 
 use anyhow::Result;
-use pauseless::{Config, Layout, Layouts};
+use heap::Config;
+use layout::{Layout, Layouts};
 use std::alloc::Global;
 
 /// The words of a page.

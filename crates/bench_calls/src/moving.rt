@@ -5,8 +5,9 @@ ghost use Rattle.std.specs.Prelude.{◌<◌};
 use crate::asking::{Steps, THREAD, WORKER};
 use crate::mixes::WORDS;
 use anyhow::Result;
-use heap::Heap;
-use pauseless::{Config, Layout, Layouts, PageList, Refusal, Step};
+use cycle::{PageList, Step};
+use heap::{Config, Heap, Refusal};
+use layout::{Layout, Layouts};
 use std::alloc::Global;
 
 /// How the objects of a page are copied.

@@ -4,8 +4,8 @@ use crate::asking::{Steps, THREAD};
 use crate::lists::build;
 use crate::mixes::{LAST, LIST, Mix, OBJECTS, OTHER, config};
 use anyhow::Result;
-use heap::Heap;
-use pauseless::{Answer, Book, Refusal, Reply, Step};
+use cycle::{Answer, Book, Reply, Step};
+use heap::{Heap, Refusal};
 use std::alloc::Global;
 
 /// Does a step of the thread.

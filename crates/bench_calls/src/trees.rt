@@ -2,7 +2,8 @@
 
 use crate::asking::{Steps, THREAD};
 use crate::mixes::WORDS;
-use pauseless::{Refusal, Reply, Step};
+use cycle::{Reply, Step};
+use heap::Refusal;
 
 /// The layout of a node.
 const BRANCH: u32 = 1;

@@ -3,8 +3,9 @@
 use crate::asking::Steps;
 use crate::moving::{fill_live, objects_of};
 use anyhow::Result;
-use heap::Heap;
-use pauseless::{Config, Layout, Layouts, verify};
+use heap::{Config, Heap};
+use heap_images::verify;
+use layout::{Layout, Layouts};
 use std::alloc::{AllocError, Global};
 
 /// Verifies a heap once.

@@ -2,7 +2,10 @@
 //! itself would include all promises of each call.
 
 use anyhow::Result;
-use pauseless::{Collect, Config, Layout, Layouts, ManagedHeap, Policy, Refusal};
+use collecting::{Collect, Policy};
+use heap::{Config, Refusal};
+use layout::{Layout, Layouts};
+use managed::ManagedHeap;
 use std::alloc::Global;
 use std::thread::Threads;
 
@@ -80,7 +83,7 @@ pub fn collect_by<R: Threads + Sync>(
     heap: &mut ManagedHeap,
     threads: u32,
 ) -> Result<u64, Refusal> {
-    Ok(pauseless::collect_by(rt, heap, alloc, PERCENT, threads)?.live)
+    Ok(collecting::collect_by(rt, heap, alloc, PERCENT, threads)?.live)
 }
 
 /// Allocates an object of a layout, in a register.

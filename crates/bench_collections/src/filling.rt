@@ -1,7 +1,9 @@
 //! Filling pages with objects, of which every second one is live.
 
 use anyhow::Result;
-use pauseless::{Config, Layout, Layouts, ManagedHeap, Mutate, Refusal};
+use heap::{Config, Refusal};
+use layout::{Layout, Layouts};
+use managed::{ManagedHeap, Mutate};
 use std::alloc::Global;
 
 /// The one thread.

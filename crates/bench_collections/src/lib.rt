@@ -59,7 +59,7 @@ mod turning;
 use anyhow::{Result, bail};
 use bench_support::{Work, tell};
 use filling::{narrow, wide};
-use pauseless::Layout;
+use layout::Layout;
 use std::alloc::Global;
 use std::thread::Threads;
 use std::time::Clock;

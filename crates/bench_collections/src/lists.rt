@@ -2,7 +2,7 @@
 
 use crate::asking::{HEAD, LINK, ME, NODE, make};
 use anyhow::Result;
-use pauseless::Collect;
+use collecting::Collect;
 use std::alloc::Global;
 
 /// Pushes a new object to the list.

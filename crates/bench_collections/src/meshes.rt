@@ -3,7 +3,8 @@
 
 use crate::asking::{BRANCH, HEAD, ME, NODE, PLACES, TABLE, make};
 use anyhow::Result;
-use pauseless::{Collect, Refusal};
+use collecting::Collect;
+use heap::Refusal;
 use std::alloc::Global;
 
 /// Registers: the table of tables of tables, one of these, one of those, and an object whose reference is stored.

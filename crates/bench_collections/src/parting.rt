@@ -3,9 +3,11 @@
 use crate::filling::{fill, new_heap};
 use anyhow::Result;
 use bench_support::{Lap, Laps, since};
+use collecting::{Collect, Parts};
 use heap::Heap;
+use layout::Layout;
+use managed::ManagedHeap as HeldHeap;
 use model::Phase;
-use pauseless::{Collect, Layout, ManagedHeap as HeldHeap, Parts};
 use std::alloc::Global;
 use std::time::{Clock, Instant};
 

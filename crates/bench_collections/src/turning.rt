@@ -4,7 +4,9 @@ use crate::asking::{LARGE, Marked, collect_by, framed_heap, mark_by, new_heap, s
 use crate::{lists, meshes};
 use anyhow::Result;
 use bench_support::{Lap, Laps, since};
-use pauseless::{Collect, ManagedHeap, Refusal};
+use collecting::Collect;
+use heap::Refusal;
+use managed::ManagedHeap;
 use std::alloc::Global;
 use std::thread::Threads;
 use std::time::{Clock, Instant};

@@ -8,7 +8,6 @@ ghost use Rattle.model.specs.States.{change_at};
 ghost use Rattle.global_roots.specs.Globals.{is_todo, counted_todo};
 
 use model::Global;
-use page::many;
 use refword::Word;
 use std::alloc::{AllocError, Global as Memory};
 use std::marker::Model;
@@ -62,7 +61,7 @@ impl Globals {
             word: Word::null(),
             todo: false,
         };
-        let list = many(alloc, count, global)?;
+        let list = vec![in alloc; global; count as usize]?;
         Ok(Globals { list, left: 0 })
     }
 

@@ -1,6 +1,6 @@
 //! How often each kind of step was accepted.
 
-use pauseless::{Answer, Reply, Step};
+use cycle::{Answer, Reply, Step};
 
 /// The names of the kinds of steps, in their order.
 pub const KINDS: [&str; 30] = [

@@ -1,11 +1,12 @@
 //! The calls of a driver on a heap. They have no contracts: the proof of a loop over a `Heap` or a `Book` itself
 //! would include all promises of each step.
 
-use cycle::Stepping;
+use cycle::{Actor, Book, Reply, Step, Stepping};
 use heap::Heap;
-use pauseless::{Actor, Book, Reply, Step, Verdict, verify};
+use heap_images::verify;
 use script::verify_book;
 use std::alloc::{AllocError, Global};
+use verify::Verdict;
 
 /// A heap that is driven, or a recorded heap.
 pub trait Driven {

@@ -7,10 +7,11 @@ use crate::numbers::below;
 use crate::setups::Habits;
 use crate::tending::next_work;
 use anyhow::{Result, bail};
+use cycle::{Actor, Step};
 use heap::Heap;
-use pauseless::{Actor, Step, Verdict};
 use std::alloc::{AllocError, Global};
 use test_support_samples::Dice;
+use verify::Verdict;
 
 /// How long a heap is driven, and how.
 #[derive(Clone, Copy)]

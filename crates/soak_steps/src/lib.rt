@@ -31,8 +31,8 @@ use crate::telling::{misses, tell};
 use crate::wasting::waste_in_each;
 use anyhow::{Result, bail};
 use bench_support::Work;
-use heap::Heap;
-use pauseless::{Book, Config};
+use cycle::Book;
+use heap::{Config, Heap};
 use std::alloc::Global;
 
 /// Drives a heap or a recorded heap.

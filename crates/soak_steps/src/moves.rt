@@ -2,8 +2,8 @@
 
 use crate::numbers::{index, small};
 use crate::setups::Habits;
-use heap::Heap;
-use pauseless::{Config, Step};
+use cycle::Step;
+use heap::{Config, Heap};
 use test_support_samples::Dice;
 
 /// The state of a thread.

@@ -1,6 +1,7 @@
 //! The heaps that are driven, and how.
 
-use pauseless::{Config, Layout, Layouts};
+use heap::Config;
+use layout::{Layout, Layouts};
 use std::alloc::{AllocError, Global};
 
 /// How a heap is driven.

@@ -2,9 +2,10 @@
 
 use crate::numbers::{index, small};
 use crate::setups::Habits;
+use choosing::choose;
+use cycle::{PageList, Step, next_drain};
 use heap::Heap;
 use model::{PageState, Phase};
-use pauseless::{PageList, Step, choose, next_drain};
 use std::alloc::{AllocError, Global};
 use test_support_samples::Dice;
 

@@ -8,7 +8,10 @@
 //! | 3 | 6 | 16 | the last object, and the first one, whose number is still there at the end |
 
 use anyhow::Result;
-use pauseless::{Collect, Config, Layout, Layouts, ManagedHeap, Policy};
+use collecting::{Collect, Policy};
+use heap::Config;
+use layout::{Layout, Layouts};
+use managed::ManagedHeap;
 use std::alloc::Global;
 
 /// The program's one thread.
