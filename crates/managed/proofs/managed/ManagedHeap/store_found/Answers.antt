@@ -7,14 +7,14 @@ use Rattle.managed.proofs.managed.ManagedHeap.store_found.Goals as goal
 
 pub invariant_of-self : goal.invariant_of-self
 invariant_of-self c =
-    managed_in_one c.store_found.result c.self.inside.heap c.store_found.new.self c.args.thread
+    managed_in_one c.store_found.result c.self.inside.heap c.store_found.new.heap c.args.thread
     (steps.Store c.args.object c.args.field c.args.source) c.law.ensures.store c.law.ensures.heap c.law-2.ensures.steps
     c.law-2.ensures.marks c.law-2.ensures.phases c.law-2.ensures.tallies c.store_found.ensures.does c.self.invariant
 
 pub returns-clause-does : goal.returns-clause-does
 returns-clause-does c =
     subst (λ (g : HeapState). MayStep c.store_found.result g c.args.thread (steps.Store c.args.object c.args.field c.args.source)
-    c.store_found.new.self) c.self.view_is
-    (may_store_step c.store_found.result c.self.inside.heap c.store_found.new.self c.args.thread c.args.object c.args.field c.args.source
+    c.store_found.new.heap) c.self.view_is
+    (may_store_step c.store_found.result c.self.inside.heap c.store_found.new.heap c.args.thread c.args.object c.args.field c.args.source
     c.law.ensures.store c.law.ensures.heap c.law-2.ensures.steps c.law-2.ensures.marks c.law-2.ensures.phases
     c.law-2.ensures.tallies c.store_found.ensures.does)
