@@ -11,9 +11,13 @@ use std::alloc::{AllocError, Global};
 /// The bitmaps of one page. When a page opens, each of them has a clear bit for each of its words.
 #[derive(Drop)]
 pub struct PageRows {
+    /// Where objects start.
     pub starts: Row,
+    /// Which objects the last mark found live.
     pub live: Row,
+    /// Which objects the running mark has marked.
     pub mark: Row,
+    /// Which objects are grey.
     pub todo: Row,
 }
 
@@ -68,7 +72,9 @@ fn blank_rows(
 /// All memory that a page needs to open.
 #[derive(Drop)]
 pub struct PageMemory {
+    /// Its words.
     pub frame: Frame,
+    /// Its bitmaps.
     pub rows: PageRows,
 }
 

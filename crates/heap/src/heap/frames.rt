@@ -10,7 +10,8 @@ use crate::heap::Heap;
 use refword::Addr;
 
 impl Heap {
-    /// Returns the frame of the page that a number is an address on, if the page has memory and isn't protected.
+    /// Returns the number, from 0, of the frame of the page that a number is an address on, if the page has memory and
+    /// isn't protected.
     #[inline(always)]
     pub fn frame_at_once(&self, number: u64) -> Option<u32>
         ensures address { IfSome result (λ _. IsAddress number) }
@@ -31,9 +32,9 @@ impl Heap {
         self.store.recorded_usable_frame(number)
     }
 
-    /// A raw edit: writes the word less than 2^17 words after an address on a page that has memory and isn't protected, by the
-    /// page's frame, if it is on the same page. Returns whether it did. It may also be false after the page was lent
-    /// alongside another one; `raw_set_word_behind` then writes it.
+    /// A raw edit: writes the word less than 2^17 words after an address on a page that has memory and isn't
+    /// protected, by the page's frame, if it is on the same page. Returns whether it did. It may also be false after
+    /// the page was lent alongside another one; `raw_set_word_behind` then writes it.
     #[inline(always)]
     pub fn raw_set_word_on(&mut self, frame: u32, address: Addr, ahead: u64, value: u64) -> bool
         requires frame { IsOnFrame self.old address frame }
